@@ -1,0 +1,4 @@
+pub mod Multiset
+pub mod Stack
+pub mod Assertion
+pub mod Truth

@@ -1,0 +1,20 @@
+//! Pure formulas: linear integer arithmetic and bags, with their truth at a stack.
+//!
+//! `specs/` has the stack and the truth of every formula, quantifiers and bags included. A copy of a formula
+//! is an equal formula.
+#![tactic(auto)]
+
+mod bag;
+mod lin;
+mod memory;
+mod pure;
+mod shared;
+mod valuation;
+mod var;
+
+pub use bag::Bag;
+pub use lin::Lin;
+pub use memory::NoMemory;
+pub use pure::Pure;
+pub use valuation::Valuation;
+pub use var::Var;
