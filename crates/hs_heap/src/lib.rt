@@ -1,0 +1,15 @@
+//! Formulas of heaps over user-defined data types and predicates.
+//!
+//! `specs/` has heaps and their disjoint union, when a heap satisfies a formula (the least fixpoint of the
+//! predicates' bodies), and when an entailment holds with a residue. A copy of a value is an equal value.
+#![tactic(auto)]
+
+mod copies;
+mod definitions;
+mod formula;
+mod node;
+mod shared;
+
+pub use definitions::{Defs, NodeDef, PredDef};
+pub use formula::{Atom, Disjunct, Formula, Of};
+pub use node::HeapNode;
