@@ -1,0 +1,12 @@
+//! Entailments of points-to atoms and equations: claims, the goals of their search, and what a search must find.
+//!
+//! `specs/` has the formulas that these stand for, the rules, the order of choices, derivations, and the blame
+//! for a goal that has none. A goal with a derivation entails, with the derivation's residue.
+#![tactic(auto)]
+
+mod claim;
+mod goal;
+mod shared;
+
+pub use claim::{Claim, Equation, Names, Resolved, Side, Term};
+pub use goal::{Goal, Obligation, Outcome, Question};
