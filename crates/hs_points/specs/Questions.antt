@@ -68,8 +68,12 @@ has_open opens e = is_open opens e.left || is_open opens e.right
 abbrev pub open_equations : Goal → List Equation
 open_equations g = filter (has_open g.opens) g.right.equations
 
--- the equations without open variables, and those with some, whose open variables are bound by rising number
+-- the question of a goal without right atoms: on the left its used and left atoms and its left equations, on
+-- the right the equations without open variables, and those with some, whose open variables are bound by
+-- rising number
 pub record Asks (g : Goal) (question : Question) : Type 0 where
+  pub atoms : question.atoms ≡ g.used ++ g.left.atoms
+  pub known : question.known ≡ g.left.equations
   pub closed : question.closed ≡ filter (λ e. not (has_open g.opens e)) g.right.equations
   pub others : question.others ≡ open_equations g
   pub bound : question.bound ≡ filter (λ v. in_equations v (open_equations g)) g.opens

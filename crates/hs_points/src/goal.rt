@@ -16,9 +16,12 @@ pub struct Goal {
     pub looked: bool,
 }
 
-/// What the left side has to imply: the closed equations, and the others for some values of the bound variables.
+/// Whether the atoms and the known equations imply the closed equations, and the others for some values of the
+/// bound variables.
 #[derive(Debug, Drop)]
 pub struct Question {
+    pub atoms: Items<Atom>,
+    pub known: Items<Equation>,
     pub closed: Items<Equation>,
     pub bound: Items<Var>,
     pub others: Items<Equation>,
@@ -27,7 +30,7 @@ pub struct Question {
 /// Why a goal has no derivation.
 #[derive(Debug, Drop)]
 pub enum Obligation {
-    /// At the valuation the left side is true and the question is not.
+    /// At the valuation the left side of the question is true and its right side is not.
     NotImplied(Question, Valuation),
     /// No left atom matches this one.
     NoChoice(Atom),
