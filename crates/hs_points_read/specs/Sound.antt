@@ -1,6 +1,6 @@
 -- Which trees keep to the limits, declare what they use, and use it with the right number of arguments.
-use Rattle.std.specs.Prelude.{◌≡◌, ◌≤◌, ℕ, ◌||◌, ◌&&◌, not, Bool, true, false, nat_le, List, [], ◌∷◌, ◌++◌, length, map, Option, None, Some, unwrap_or, fold, slice_index}
-use Rattle.std.specs.List.{flat_map, list_any, list_all, AllByRecursion, filter_map}
+use Rattle.std.specs.Prelude.{◌≡◌, ◌≤◌, ℕ, ◌+◌, if◌then◌else◌, ◌&&◌, Bool, false, nat_le, List, [], ◌∷◌, ◌++◌, length, map, Option, None, Some, fold, slice_index}
+use Rattle.std.specs.List.{flat_map, list_any, AllByRecursion, filter_map}
 use Rattle.std.specs.Str.{bytes_eq}
 use Rattle.hs_points_read.specs.declared.tree.Source.{Source}
 use Rattle.hs_points_read.specs.declared.tree.Item.{Item}

@@ -1,0 +1,9 @@
+pub mod Numbers
+pub mod Runs
+pub mod Signs
+pub mod Pieces
+pub mod Loop
+pub mod Relation
+pub mod Spans
+pub mod Found
+pub mod Exact
