@@ -1,0 +1,10 @@
+pub mod Lists
+pub mod Equations
+pub mod Sides
+pub mod Apart
+pub mod Opens
+pub mod Subgoals
+pub mod Addresses
+pub mod Rules
+pub mod Starts
+pub mod Sound

@@ -1,5 +1,5 @@
 -- The texts of valuations.
-use Rattle.std.specs.Prelude.{ℕ, suc, ◌+◌, ℤ, ◌||◌, ◌&&◌, not, Bool, true, false, List, [], ◌∷◌, ◌++◌, codes, Option, Some, None, filter}
+use Rattle.std.specs.Prelude.{ℕ, ◌+◌, ◌||◌, ◌&&◌, not, Bool, false, List, [], ◌∷◌, ◌++◌, codes, Option, Some, None, filter}
 use Rattle.std.specs.List.{list_any}
 use Rattle.std.specs.Fmt.{signed_decimal}
 use Rattle.hs_pure.specs.declared.var.Var.{Var}

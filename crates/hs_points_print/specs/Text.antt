@@ -1,6 +1,5 @@
 -- The texts of points-to formulas and questions.
 use Rattle.std.specs.Prelude.{ℕ, zero, suc, List, [], ◌∷◌, ◌++◌, codes, Option, Some, None, slice_get}
-use Rattle.std.specs.List.{flat_map}
 use Rattle.std.specs.Fmt.{decimal}
 use Rattle.hs_pure.specs.declared.var.Var.{Var}
 use Rattle.hs_heap.specs.declared.formula.Atom.{Atom}

@@ -55,7 +55,12 @@ pub fn push_atom(out: &mut String, defs: &Defs, names: &Names, a: &Atom) -> Resu
 }
 
 // Adds atoms, each after a star.
-fn push_more_atoms(out: &mut String, defs: &Defs, names: &Names, atoms: &[Atom]) -> Result<(), AllocError>
+fn push_more_atoms(
+    out: &mut String,
+    defs: &Defs,
+    names: &Names,
+    atoms: &[Atom],
+) -> Result<(), AllocError>
     ensures { OnOk result (string_bytes out.new ≡ string_bytes out.old ++ each_after (codes " * ") (atom_text defs.now names.now) atoms.now) }
 {
     for atom in atoms {
@@ -65,7 +70,12 @@ fn push_more_atoms(out: &mut String, defs: &Defs, names: &Names, atoms: &[Atom])
     Ok(())
 }
 
-fn push_atoms(out: &mut String, defs: &Defs, names: &Names, atoms: &[Atom]) -> Result<(), AllocError>
+fn push_atoms(
+    out: &mut String,
+    defs: &Defs,
+    names: &Names,
+    atoms: &[Atom],
+) -> Result<(), AllocError>
     ensures { OnOk result (string_bytes out.new ≡ string_bytes out.old ++ atoms_text defs.now names.now atoms.now) }
 {
     let Some((first, rest)) = atoms.split_first() else {
@@ -93,7 +103,11 @@ fn push_equation(out: &mut String, names: &Names, e: Equation) -> Result<(), All
 }
 
 // Adds equations, each after an and.
-fn push_more_equations(out: &mut String, names: &Names, equations: &[Equation]) -> Result<(), AllocError>
+fn push_more_equations(
+    out: &mut String,
+    names: &Names,
+    equations: &[Equation],
+) -> Result<(), AllocError>
     ensures { OnOk result (string_bytes out.new ≡ string_bytes out.old ++ each_after (codes " & ") (equation_text names.now) equations.now) }
 {
     for e in equations {
@@ -104,7 +118,11 @@ fn push_more_equations(out: &mut String, names: &Names, equations: &[Equation]) 
 }
 
 /// Adds equations with ands between them.
-pub fn push_equations(out: &mut String, names: &Names, equations: &[Equation]) -> Result<(), AllocError>
+pub fn push_equations(
+    out: &mut String,
+    names: &Names,
+    equations: &[Equation],
+) -> Result<(), AllocError>
     ensures { OnOk result (string_bytes out.new ≡ string_bytes out.old ++ separated (codes " & ") (equation_text names.now) equations.now) }
 {
     let Some((first, rest)) = equations.split_first() else {
@@ -122,7 +140,12 @@ fn push_side(out: &mut String, defs: &Defs, names: &Names, side: &Side) -> Resul
 }
 
 /// Adds a residue.
-pub fn push_residue(out: &mut String, defs: &Defs, names: &Names, residue: &Option<Side>) -> Result<(), AllocError>
+pub fn push_residue(
+    out: &mut String,
+    defs: &Defs,
+    names: &Names,
+    residue: &Option<Side>,
+) -> Result<(), AllocError>
     ensures { OnOk result (string_bytes out.new ≡ string_bytes out.old ++ residue_text defs.now names.now residue.now) }
 {
     match residue {

@@ -9,7 +9,12 @@ use hs_pure::Var;
 use std::alloc::AllocError;
 
 // Adds equations for some values of variables, the first outermost.
-fn push_for_some(out: &mut String, names: &Names, bound: &[Var], equations: &[Equation]) -> Result<(), AllocError>
+fn push_for_some(
+    out: &mut String,
+    names: &Names,
+    bound: &[Var],
+    equations: &[Equation],
+) -> Result<(), AllocError>
     ensures { OnOk result (string_bytes out.new ≡ string_bytes out.old ++ for_some_text names.now bound.now (equations_text names.now equations.now)) }
 {
     let Some((first, rest)) = bound.split_first() else {

@@ -118,7 +118,12 @@ fn push_value(out: &mut String, names: &Names, v: &Valuation, x: Var) -> Result<
 }
 
 // Adds values, each after a comma.
-fn push_more_values(out: &mut String, names: &Names, v: &Valuation, vars: &[Var]) -> Result<(), AllocError>
+fn push_more_values(
+    out: &mut String,
+    names: &Names,
+    v: &Valuation,
+    vars: &[Var],
+) -> Result<(), AllocError>
     ensures { OnOk result (string_bytes out.new ≡ string_bytes out.old ++ each_after (codes ", ") (spec.value_text names.now v.now) vars.now) }
 {
     for x in vars {
@@ -128,7 +133,12 @@ fn push_more_values(out: &mut String, names: &Names, v: &Valuation, vars: &[Var]
     Ok(())
 }
 
-fn push_values(out: &mut String, names: &Names, v: &Valuation, vars: &[Var]) -> Result<(), AllocError>
+fn push_values(
+    out: &mut String,
+    names: &Names,
+    v: &Valuation,
+    vars: &[Var],
+) -> Result<(), AllocError>
     ensures { OnOk result (string_bytes out.new ≡ string_bytes out.old ++ separated (codes ", ") (spec.value_text names.now v.now) vars.now) }
 {
     let Some((first, rest)) = vars.split_first() else {
@@ -140,7 +150,13 @@ fn push_values(out: &mut String, names: &Names, v: &Valuation, vars: &[Var]) -> 
 
 /// Adds a valuation: the variables of the question that have a name and are free in it, by rising number, with
 /// their values. A claim has at most 1,000 names.
-pub fn push_valuation(alloc: Global, out: &mut String, names: &Names, question: &Question, v: &Valuation) -> Result<(), AllocError>
+pub fn push_valuation(
+    alloc: Global,
+    out: &mut String,
+    names: &Names,
+    question: &Question,
+    v: &Valuation,
+) -> Result<(), AllocError>
     requires { length names.now.list < 2 ^ 31 }
     ensures { OnOk result (string_bytes out.new ≡ string_bytes out.old ++ spec.valuation_text names.now question.now v.now) }
 {

@@ -1,0 +1,5 @@
+pub mod Words
+pub mod Line
+pub mod Output
+pub mod Sleek
+pub mod Run
