@@ -1,1 +1,14 @@
 pub mod Equations
+pub mod Vars
+pub mod Lists
+pub mod Levels
+pub mod Views
+pub mod Mirrored
+pub mod Truths
+pub mod Tops
+pub mod Sums
+pub mod AddTerm
+pub mod Ranges
+pub mod Agree
+pub mod Renamed
+pub mod Weight

@@ -2,3 +2,8 @@ pub mod Multiset
 pub mod Stack
 pub mod Assertion
 pub mod Truth
+pub mod Occurs
+pub mod Rename
+pub mod Mirror
+pub mod Sums
+pub mod Laws

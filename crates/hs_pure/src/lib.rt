@@ -5,6 +5,7 @@
 #![tactic(auto)]
 
 mod bag;
+mod laws;
 mod lin;
 mod memory;
 mod pure;
@@ -13,6 +14,10 @@ mod valuation;
 mod var;
 
 pub use bag::Bag;
+pub use laws::{
+    and_is_all, free_occurs, light_is_in_range, occurs_below_top, or_is_any, renamed_bag_use,
+    renamed_is_light, renamed_is_ordered, truth_is_of_free,
+};
 pub use lin::Lin;
 pub use memory::NoMemory;
 pub use pure::Pure;

@@ -1,0 +1,41 @@
+-- What the layers above use of formulas.
+use Rattle.std.specs.Prelude.{◌≡◌, ◌≤◌, ◌↔◌, IsTrue, List, map}
+use Rattle.std.specs.List.{All, Any}
+use Rattle.hs_pure.specs.declared.var.Var.{Var}
+use Rattle.hs_pure.specs.declared.pure.Pure.{Pure}
+use Rattle.hs_pure.specs.declared.pure.Pure.TheVariants as pure_of
+use Rattle.hs_pure.specs.Stack.{Stack}
+use Rattle.hs_pure.specs.Truth.{TrueAt}
+use Rattle.hs_pure.specs.Occurs.{is_free, occurs, top_of, bag_use}
+use Rattle.hs_pure.specs.Rename.{renamed, InRange}
+use Rattle.hs_pure.specs.Sums.{IsLight, IsOrdered, KeepsKinds}
+
+-- stacks that agree on the free variables give one truth
+abbrev pub TruthIsOfFree : Type 0
+TruthIsOfFree = (p : Pure) (s t : Stack) → ((v : Var) → IsTrue (is_free v p) → s v ≡ t v) → TrueAt s p ↔ TrueAt t p
+
+abbrev pub FreeOccurs : Type 0
+FreeOccurs = (p : Pure) (v : Var) → IsTrue (is_free v p) → IsTrue (occurs v p)
+
+abbrev pub OccursBelowTop : Type 0
+OccursBelowTop = (p : Pure) (v : Var) → IsTrue (occurs v p) → v.number ≤ top_of p
+
+abbrev pub AndIsAll : Type 0
+AndIsAll = (s : Stack) (ps : List Pure) → TrueAt s (pure_of.And ps) ↔ All (TrueAt s) ps
+
+abbrev pub OrIsAny : Type 0
+OrIsAny = (s : Stack) (ps : List Pure) → TrueAt s (pure_of.Or ps) ↔ Any (TrueAt s) ps
+
+-- a light formula may be renamed by every renaming
+abbrev pub LightIsInRange : Type 0
+LightIsInRange = (ρ : Var → Var) (p : Pure) → IsLight p → InRange ρ p
+
+abbrev pub RenamedIsLight : Type 0
+RenamedIsLight = (ρ : Var → Var) (p : Pure) → IsLight p → IsLight (renamed ρ p)
+
+abbrev pub RenamedIsOrdered : Type 0
+RenamedIsOrdered = (ρ : Var → Var) (p : Pure) → KeepsKinds ρ → IsOrdered p → IsOrdered (renamed ρ p)
+
+-- a renaming leaves bag literals where they stand
+abbrev pub RenamedBagUse : Type 0
+RenamedBagUse = (ρ : Var → Var) (p : Pure) → bag_use (renamed ρ p) ≡ bag_use p

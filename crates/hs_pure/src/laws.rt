@@ -1,0 +1,48 @@
+//! Laws of formulas, for the proofs of the layers above. Each is the contract of a function without a body.
+
+ghost use Rattle.hs_pure.specs.Laws.{TruthIsOfFree, FreeOccurs, OccursBelowTop, AndIsAll, OrIsAny, LightIsInRange, RenamedIsLight, RenamedIsOrdered, RenamedBagUse};
+
+/// Stacks that agree on the free variables of a formula give it the same truth.
+pub fn truth_is_of_free()
+    ensures { TruthIsOfFree }
+{}
+
+/// What occurs free occurs.
+pub fn free_occurs()
+    ensures { FreeOccurs }
+{}
+
+/// No number that occurs is above the greatest one.
+pub fn occurs_below_top()
+    ensures { OccursBelowTop }
+{}
+
+/// `And` is true where all of its members are.
+pub fn and_is_all()
+    ensures { AndIsAll }
+{}
+
+/// `Or` is true where one of its members is.
+pub fn or_is_any()
+    ensures { OrIsAny }
+{}
+
+/// A light formula may be renamed by every renaming.
+pub fn light_is_in_range()
+    ensures { LightIsInRange }
+{}
+
+/// A renamed formula is as light.
+pub fn renamed_is_light()
+    ensures { RenamedIsLight }
+{}
+
+/// A renaming that keeps kinds keeps the terms of sums in order and without coefficient 0.
+pub fn renamed_is_ordered()
+    ensures { RenamedIsOrdered }
+{}
+
+/// A renaming leaves the bag literals where they stand.
+pub fn renamed_bag_use()
+    ensures { RenamedBagUse }
+{}
