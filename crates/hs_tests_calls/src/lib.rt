@@ -1,0 +1,11 @@
+//! Tests of the calls of the layers: each that takes memory runs once, and its answer is compared.
+#![tactic(auto)]
+
+#[cfg(test)]
+mod formulas;
+#[cfg(test)]
+mod heaps;
+#[cfg(test)]
+mod outside;
+#[cfg(test)]
+mod tokens;
