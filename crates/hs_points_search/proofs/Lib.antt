@@ -1,0 +1,10 @@
+pub mod Lists
+pub mod Vars
+pub mod Joining
+pub mod Values
+pub mod Truth
+pub mod Modelling
+pub mod Leading
+pub mod Stepping
+pub mod Ending
+pub mod Loops

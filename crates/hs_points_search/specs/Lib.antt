@@ -1,0 +1,4 @@
+pub mod Classes
+pub mod Ready
+pub mod Steps
+pub mod Valued
