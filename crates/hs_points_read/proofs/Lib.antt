@@ -1,0 +1,12 @@
+pub mod Spans
+pub mod Turns
+pub mod Steps
+pub mod Spelled
+pub mod Reread
+pub mod Keys
+pub mod Limits
+pub mod Checked
+pub mod Outcomes
+pub mod Places
+pub mod Occurs
+pub mod Fitting

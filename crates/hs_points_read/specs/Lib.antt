@@ -2,3 +2,8 @@ pub mod Words
 pub mod Spelling
 pub mod Sound
 pub mod Normal
+pub mod Parser
+pub mod View
+pub mod Parse
+pub mod Check
+pub mod Read

@@ -54,6 +54,21 @@ pub enum HeapTree {
     Atoms(Items<PointsTo>),
 }
 
+impl HeapTree {
+    ghost use Rattle.std.specs.Prelude.{◌≡◌};
+    ghost use Rattle.hs_points_read.specs.Sound.{atoms_in};
+
+    /// The atoms that are written.
+    pub fn atoms(&self) -> &[PointsTo]
+        ensures { result.now ≡ atoms_in self.now }
+    {
+        match self {
+            HeapTree::Absent | HeapTree::Emp => &[],
+            HeapTree::Atoms(atoms) => atoms.as_slice(),
+        }
+    }
+}
+
 /// A node of a data type at a root, with the values of its fields.
 #[derive(Debug, Drop)]
 pub struct PointsTo {

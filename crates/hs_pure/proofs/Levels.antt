@@ -1,6 +1,5 @@
 -- What is defined by levels, level by level.
 use Rattle.std.proofs.Common.{◌≡◌, List, [], ◌∷◌, map, refl, sym, ap, ◌∙◌, subst}
-use Rattle.hs_pure.specs.declared.var.Var.{Var}
 use Rattle.hs_pure.specs.declared.bag.Bag.{Bag, fold-Bag, ind-Bag, fold-roll-Bag, map-Bag, roll-Bag}
 use Rattle.hs_pure.specs.declared.bag.Bag.TheOpen.{Bag-F}
 use Rattle.hs_pure.specs.declared.pure.Pure.{Pure, fold-Pure, ind-Pure, fold-roll-Pure, map-Pure, roll-Pure}

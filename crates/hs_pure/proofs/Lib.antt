@@ -12,3 +12,9 @@ pub mod Ranges
 pub mod Agree
 pub mod Renamed
 pub mod Weight
+pub mod Listed
+pub mod EvalSums
+pub mod EvalBags
+pub mod Loops
+pub mod Divides
+pub mod EvalStack

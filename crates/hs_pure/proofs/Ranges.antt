@@ -1,5 +1,5 @@
 -- What is in range in a bag or a formula is so in its parts.
-use Rattle.std.proofs.Common.{◌≡◌, ℕ, ℤ, ◌+◌, ◌<◌, List, [], ◌∷◌, ◌++◌, map, length, sym, ap, ◌∙◌, subst, arith, take, drop}
+use Rattle.std.proofs.Common.{◌≡◌, ℤ, List, [], ◌∷◌, ◌++◌, map, sym, ap, ◌∙◌, subst}
 use Rattle.std.specs.List.{All, flat_map}
 use Rattle.hs_pure.specs.declared.var.Var.{Var}
 use Rattle.hs_pure.specs.declared.lin.Lin.{Lin}
@@ -8,7 +8,7 @@ use Rattle.hs_pure.specs.declared.bag.Bag.TheVariants as bag_of
 use Rattle.hs_pure.specs.declared.pure.Pure.{Pure}
 use Rattle.hs_pure.specs.declared.pure.Pure.TheVariants as pure_of
 use Rattle.hs_pure.specs.Rename.{bag_sums, bag_sums_level, sums, sums_level, LinInRange, BagInRange, InRange}
-use Rattle.hs_pure.proofs.Views.{fold_bag-Empty, fold_bag-Name, fold_bag-One, fold_bag-Union, fold_bag-Inter, fold_bag-Diff, fold-Eq, fold-Lt, fold-Le, fold-Divides, fold-BagEq, fold-Subset, fold-Member, fold-AllOf, fold-Not, fold-And, fold-Or, fold-Exists, fold-Forall}
+use Rattle.hs_pure.proofs.Views.{fold_bag-One, fold_bag-Union, fold_bag-Inter, fold_bag-Diff, fold-Eq, fold-Lt, fold-Le, fold-Divides, fold-BagEq, fold-Subset, fold-Member, fold-AllOf, fold-Not, fold-And, fold-Or, fold-Exists, fold-Forall}
 use Rattle.hs_pure.proofs.Lists.{All-left, All-right, All-first, All-later, All-pieces}
 
 module _ (ρ : Var → Var) where

@@ -11,7 +11,7 @@ use Rattle.hs_pure.specs.declared.pure.Pure.TheOpen.{Pure-F}
 use Rattle.hs_pure.specs.Stack.{Stack, Value, same, with_value, number_value}
 use Rattle.hs_pure.specs.Assertion.{BagTerm, empty, name, one, union, inter, diff, Assertion, truth, eq, lt, le, divides, bag_eq, subset, member, all_of, negation, both, either, exists, forall, every, some, bag_level, bag_term_of, pure_level, assertion_of}
 use Rattle.hs_pure.specs.Truth.{value, count, IsTrueAt, TrueAt}
-use Rattle.hs_pure.specs.Occurs.{in_lin, is_free, is_bound, occurs}
+use Rattle.hs_pure.specs.Occurs.{is_free, occurs}
 use Rattle.hs_pure.specs.Rename.{renamed_lin, renamed_bag, renamed_bag_level, renamed, renamed_level, KeepsApart}
 use Rattle.hs_pure.specs.Mirror.{in_bag_term, is_free_in, is_bound_in, occurs_in, renamed_term, renamed_assertion}
 use Rattle.hs_pure.proofs.Vars.{or_left, or_right, same-refl, same-eq, different}

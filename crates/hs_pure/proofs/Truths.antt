@@ -1,5 +1,5 @@
 -- The truth of a formula, variant by variant.
-use Rattle.std.proofs.Common.{◌≡◌, ℕ, zero, suc, ◌+◌, ◌<◌, ◌≤◌, ℤ, pos, ◌*ℤ◌, ◌<ℤ◌, ◌≤ℤ◌, List, [], ◌∷◌, map, length, get_or, ◌↔◌, ◌⊎◌, inl, inr, ⊎_elim, refl, sym, ap, ◌∙◌, subst, arith}
+use Rattle.std.proofs.Common.{◌≡◌, ℕ, zero, suc, ◌<◌, ◌≤◌, ℤ, pos, ◌*ℤ◌, ◌<ℤ◌, ◌≤ℤ◌, List, [], ◌∷◌, map, length, get_or, ◌↔◌, ◌⊎◌, inl, inr, ⊎_elim, refl, sym, subst, arith}
 use Rattle.std.specs.List.{All, Any, fold}
 use Rattle.std.proofs.lemmas.List.Elements.{All-head, All-nil, All-cons, All-map}
 use Rattle.hs_pure.specs.declared.var.Var.{Var}

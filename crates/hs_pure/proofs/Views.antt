@@ -1,5 +1,5 @@
 -- What is defined by levels, at each variant.
-use Rattle.std.proofs.Common.{◌≡◌, ℤ, List, [], ◌∷◌, ◌++◌, map, sym, ap, ◌∙◌}
+use Rattle.std.proofs.Common.{◌≡◌, ℤ, List, map, sym, ap, ◌∙◌}
 use Rattle.hs_pure.specs.declared.var.Var.{Var}
 use Rattle.hs_pure.specs.declared.lin.Lin.{Lin}
 use Rattle.hs_pure.specs.declared.bag.Bag.{Bag, fold-Bag, fold-roll-Bag}

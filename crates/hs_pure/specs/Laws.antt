@@ -1,5 +1,5 @@
 -- What the layers above use of formulas.
-use Rattle.std.specs.Prelude.{◌≡◌, ◌≤◌, ◌↔◌, IsTrue, List, map}
+use Rattle.std.specs.Prelude.{◌≡◌, ◌≤◌, ◌↔◌, IsTrue, List}
 use Rattle.std.specs.List.{All, Any}
 use Rattle.hs_pure.specs.declared.var.Var.{Var}
 use Rattle.hs_pure.specs.declared.pure.Pure.{Pure}

@@ -7,3 +7,7 @@ pub mod Rename
 pub mod Mirror
 pub mod Sums
 pub mod Laws
+pub mod Eval
+pub mod Values
+pub mod Answer
+pub mod Size

@@ -1,10 +1,14 @@
 //! Pure formulas: linear integer arithmetic and bags, with their truth at a stack.
 //!
-//! `specs/` has the stack and the truth of every formula, quantifiers and bags included. A copy of a formula
-//! is an equal formula.
+//! `specs/` has the stack and the truth of every formula, quantifiers and bags included. A copy is an equal
+//! formula. `has`, `top` and `bags_plain` tell exactly which variables occur and where bag literals stand. A
+//! renamed formula is true where the formula is true under the renamed stack. `eval` gives the truth of a
+//! formula without quantifiers, and `Wide` only where a number of the evaluation has more than 128 bits. The
+//! functions of `laws` have no body: their contracts are the laws that the layers above use.
 #![tactic(auto)]
 
 mod bag;
+mod eval;
 mod laws;
 mod lin;
 mod memory;
@@ -14,6 +18,7 @@ mod valuation;
 mod var;
 
 pub use bag::Bag;
+pub use eval::Wide;
 pub use laws::{
     and_is_all, free_occurs, light_is_in_range, occurs_below_top, or_is_any, renamed_bag_use,
     renamed_is_light, renamed_is_ordered, truth_is_of_free,

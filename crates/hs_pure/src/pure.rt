@@ -143,9 +143,9 @@ impl Pure {
         }
     }
 
-    /// Whether a bag literal occurs.
+    // Whether a bag literal occurs.
     #[cycle(has_bags)]
-    pub fn has_bags(&self) -> bool
+    fn has_bags(&self) -> bool
         ensures { result ≡ has_bags self.now }
     {
         match self {

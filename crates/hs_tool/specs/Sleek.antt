@@ -15,7 +15,7 @@ use Rattle.hs_points_print.specs.Text.{variable_text, atom_text, residue_text, q
 use Rattle.hs_points_print.specs.Shown.{valuation_text}
 use Rattle.hs_points_read.specs.Normal.{IsResolved}
 use Rattle.hs_tool.specs.declared.line.Line.{Line}
-use Rattle.hs_tool.specs.declared.line.Line.TheVariants.{Valid, Unknown, SleekSummary, RefusedWords, FileFault, Refused}
+use Rattle.hs_tool.specs.declared.line.Line.TheVariants.{Valid, Unknown, SleekSummary, Refused}
 use Rattle.hs_tool.specs.declared.why.Why.{Why}
 use Rattle.hs_tool.specs.declared.why.Why.TheVariants.{NotImplied, NoChoice, OpenRoot}
 use Rattle.hs_tool.specs.declared.refusal.Refusal.TheVariants.{NotBuilt}

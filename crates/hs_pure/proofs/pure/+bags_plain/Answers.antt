@@ -1,4 +1,4 @@
-use Rattle.std.proofs.Common.{◌≡◌, Bool, true, false, not, sym, ◌∙◌, ap}
+use Rattle.std.proofs.Common.{◌≡◌, true, not, sym, ◌∙◌, ap}
 use Rattle.hs_pure.specs.Occurs.{bag_use}
 use Rattle.hs_pure.proofs.Lists.{list_any-map_at, from_not}
 use Rattle.hs_pure.proofs.pure.+bags_plain.Goals as goal

@@ -1,4 +1,4 @@
-use Rattle.std.proofs.Common.{◌≡◌, ◌↔◌, Result, Ok, Err, IfOk, sym, subst}
+use Rattle.std.proofs.Common.{◌≡◌, ◌↔◌, sym, subst}
 use Rattle.hs_pure.specs.declared.pure.Pure.{Pure}
 use Rattle.hs_pure.specs.Stack.{Stack}
 use Rattle.hs_pure.specs.Truth.{TrueAt}

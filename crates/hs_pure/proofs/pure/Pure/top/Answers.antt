@@ -1,4 +1,4 @@
-use Rattle.std.proofs.Common.{◌<◌, ◌≤◌, ◌≡◌, IsTrue, ◌∙◌, sym, subst}
+use Rattle.std.proofs.Common.{◌<◌, ◌≤◌, ◌≡◌, IsTrue, sym, subst}
 use Rattle.hs_pure.specs.declared.var.Var.{Var}
 use Rattle.hs_pure.specs.Occurs.{occurs}
 use Rattle.hs_pure.proofs.Tops.{occurs-below_top, top-reached}

@@ -1,0 +1,9 @@
+use Rattle.std.proofs.Common.{◌≡◌, ◌+◌, drop, map, length}
+use Rattle.std.specs.List.{list_all}
+use Rattle.hs_points_read.specs.Check as spec
+use Rattle.hs_points_read.specs.Check.{all_now, data_name, field_name}
+use Rattle.hs_points_read.specs.Sound.{find_data, is_among}
+use Rattle.hs_points_read.proofs.check.find_type.Given as goal
+
+abbrev pub invariant-loop-declared : goal.invariant-loop-declared
+invariant-loop-declared l = (l.number ≡ l.declared-index + 1) × (find_data l.number (all_now (drop l.declared-index l.types)) l.name ≡ find_data 1 (all_now l.types) l.name)

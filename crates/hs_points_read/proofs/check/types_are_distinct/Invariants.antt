@@ -1,0 +1,12 @@
+use Rattle.std.proofs.Common.{◌≡◌, ◌+◌, drop, map, length}
+use Rattle.std.specs.List.{list_all}
+use Rattle.hs_points_read.specs.Check as spec
+use Rattle.hs_points_read.specs.Check.{all_now, data_name, field_name}
+use Rattle.hs_points_read.specs.Sound.{find_data, is_among}
+use Rattle.hs_points_read.proofs.check.types_are_distinct.Given as goal
+
+abbrev pub invariant-loop-rest : goal.invariant-loop-rest
+invariant-loop-rest l = spec.are_distinct (map data_name (all_now l.rest)) ≡ spec.are_distinct (map data_name (all_now l.types))
+
+abbrev pub decreases-loop-rest : goal.decreases-loop-rest
+decreases-loop-rest l = length l.rest
