@@ -1,8 +1,8 @@
 -- The tests say what sound sources are.
-use Rattle.std.proofs.Common.{◌≡◌, ◌≢◌, ◌≤◌, ℕ, ◌+◌, Bool, true, false, cond, List, [], ◌∷◌, ◌++◌, length, map, Option, None, Some, refl, sym, ap, subst, ◌∙◌, eq-eqb, arith}
-use Rattle.std.specs.Prelude.{fold, ◌&&◌, ◌||◌, not, nat_le, nat_eq}
+use Rattle.std.proofs.Common.{◌≡◌, ◌≤◌, ℕ, Bool, true, false, cond, List, [], ◌∷◌, ◌++◌, length, map, Option, None, Some, refl, sym, ap, subst, ◌∙◌, eq-eqb, arith}
+use Rattle.std.specs.Prelude.{fold, ◌&&◌, not, nat_le}
 use Rattle.std.specs.Option.{is_some}
-use Rattle.std.specs.List.{list_all, list_any, AllByRecursion}
+use Rattle.std.specs.List.{list_all, AllByRecursion}
 use Rattle.std.specs.Str.{bytes_eq}
 use Rattle.std.proofs.lemmas.Bool.{leb-true, le-leb}
 use Rattle.std.proofs.lemmas.Bool.Decides.{nat_tests}
@@ -21,12 +21,9 @@ use Rattle.hs_points_read.specs.declared.tree.PointsTo.{PointsTo}
 use Rattle.hs_points_read.specs.Sound.{data_types, entailments, atoms_in, is_among, AreDistinct, noted, distinct_names, names_in, is_upper, find_data, KindIsDeclared, DataIsSound, AtomIsSound, SideIsSound, EntailmentIsSound, IsSound}
 use Rattle.hs_points_read.specs.Normal.{claim_of, claims_of, defs_of}
 use Rattle.hs_points_read.specs.Check.{are_distinct, kind_is_declared, field_name, data_name, data_is_sound, has_arity, atom_is_sound, side_is_sound, is_lower, names_are_sound, entailment_is_sound, claims_if, types_are_sound, resolved_by, resolved_of}
-use Rattle.hs_points_read.proofs.Limits.{and_left, and_right}
+use Rattle.hs_points_read.proofs.Tests.{and_left, and_right, and_true, or_case}
 
 -- ---- tests
-
-pub and_true : (a b : Bool) → a ≡ true → b ≡ true → (a && b) ≡ true
-and_true a b x y = ap (λ c. c && b) x ∙ y
 
 not_true : (a : Bool) → not a ≡ true → a ≡ false
 not_true true e = absurd cc
@@ -59,10 +56,6 @@ distinct_from (name ∷ names) e =
 distinct_to : (names : List (List ℕ)) → AreDistinct names → are_distinct names ≡ true
 distinct_to [] h = refl
 distinct_to (name ∷ names) h = and_true (not (is_among name names)) (are_distinct names) (not_false (is_among name names) h.0) (distinct_to names h.1)
-
-or_case : (G : Type 0) (a b : Bool) → (a || b) ≡ true → (a ≡ true → G) → (b ≡ true → G) → G
-or_case G true b e first second = first refl
-or_case G false b e first second = second e
 
 -- a name that is there passes what all there pass
 pub passes : (p : List ℕ → Bool) (name : List ℕ) (known : List (List ℕ)) → is_among name known ≡ true → list_all p known ≡ true → p name ≡ true

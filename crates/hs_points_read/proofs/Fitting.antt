@@ -1,6 +1,6 @@
 -- The claims of a sound source are well formed.
-use Rattle.std.proofs.Common.{◌⊎◌, inl, inr, ◌≡◌, ◌≤◌, ◌<◌, ℕ, zero, suc, ◌+◌, ◌-◌, ◌^◌, Bool, true, false, cond, List, [], ◌∷◌, ◌++◌, length, length-append, append_assoc, append-nil, map, Option, None, Some, refl, sym, ap, subst, ◌∙◌, arith}
-use Rattle.std.specs.Prelude.{fold, ◌||◌, nat_eq, slice_get}
+use Rattle.std.proofs.Common.{inl, inr, ◌≡◌, ◌≤◌, ◌<◌, ℕ, zero, suc, ◌+◌, ◌-◌, ◌^◌, Bool, true, false, cond, List, [], ◌∷◌, ◌++◌, length, length-append, append-nil, map, Some, refl, sym, ap, subst, ◌∙◌, arith}
+use Rattle.std.specs.Prelude.{fold, ◌||◌, slice_get}
 use Rattle.std.specs.Option.{option_map}
 use Rattle.std.specs.List.{list_any, flat_map, AllByRecursion}
 use Rattle.std.specs.Str.{bytes_eq}
@@ -10,14 +10,11 @@ use Rattle.std.proofs.lemmas.List.{length-map}
 use Rattle.std.proofs.lemmas.List.Sums.{fold-append}
 use Rattle.std.proofs.lemmas.Option.{slice_get-map}
 use Rattle.hs_pure.specs.declared.var.Var.{Var}
-use Rattle.hs_heap.specs.Meaning.{is_in}
-use Rattle.hs_heap.specs.declared.definitions.NodeDef.{NodeDef}
 use Rattle.hs_heap.specs.declared.definitions.Defs.{Defs}
 use Rattle.hs_heap.specs.declared.formula.Of.TheVariants.{Node}
 use Rattle.hs_points.specs.Fits.{in_side, node_at, VarFits, OfFits, AtomFits, TermFits, EquationFits, SideFits, RiseFrom, ClaimFits}
 use Rattle.hs_points.specs.declared.claim.Claim.{Claim}
 use Rattle.hs_points.specs.declared.claim.Resolved.{Resolved}
-use Rattle.hs_points_read.specs.declared.tree.Source.{Source}
 use Rattle.hs_points_read.specs.declared.tree.Data.{Data}
 use Rattle.hs_points_read.specs.declared.tree.Entailment.{Entailment}
 use Rattle.hs_points_read.specs.declared.tree.SideTree.{SideTree}
@@ -25,9 +22,8 @@ use Rattle.hs_points_read.specs.declared.tree.PointsTo.{PointsTo}
 use Rattle.hs_points_read.specs.declared.tree.EquationTree.{EquationTree}
 use Rattle.hs_points_read.specs.declared.tree.TermTree.{TermTree}
 use Rattle.hs_points_read.specs.declared.tree.TermTree.TheVariants.{Null, Name}
-use Rattle.hs_points_read.specs.Sound.{data_types, entailments, atoms_in, is_among, noted, distinct_names, names_in_atom, names_in_term, names_in_equation, names_in_side, names_in, find_data, AtomIsSound, SideIsSound, EntailmentIsSound, IsSound}
-use Rattle.hs_points_read.specs.Normal.{number_found, data_number, node_of, defs_of, place_from, var_of, atom_of, term_of, equation_of, side_of, vars_after, claim_of, claims_of, IsResolved}
-use Rattle.hs_points_read.proofs.Limits.{length_more}
+use Rattle.hs_points_read.specs.Sound.{data_types, entailments, atoms_in, is_among, noted, distinct_names, names_in_atom, names_in_term, names_in_equation, names_in_side, names_in, find_data, AtomIsSound, SideIsSound, EntailmentIsSound}
+use Rattle.hs_points_read.specs.Normal.{number_found, data_number, node_of, defs_of, place_from, var_of, atom_of, term_of, equation_of, side_of, vars_after, claim_of, IsResolved}
 use Rattle.hs_points_read.proofs.Places.{fold-suffix, all_among, place_within, place-append, is_at, number_met}
 use Rattle.hs_points_read.proofs.Occurs.{same_number, same-number, names_it, in_side-names, after_numbers, number_after}
 

@@ -1,21 +1,13 @@
 -- What the tests of limits say.
-use Rattle.std.proofs.Common.{◌≡◌, ◌≤◌, ℕ, ◌+◌, Bool, true, false, cond, List, [], ◌∷◌, ◌++◌, length, map, length-append, Bor, refl, sym, ap, subst, ◌∙◌, arith}
+use Rattle.std.proofs.Common.{◌≡◌, ◌≤◌, ℕ, Bool, true, false, cond, List, [], ◌∷◌, ◌++◌, length, map, length-append, Bor, arith}
 use Rattle.std.proofs.lemmas.List.{length-map}
 use Rattle.std.specs.List.{list_all}
 use Rattle.std.proofs.lemmas.Bool.Decides.{nat_tests}
 use Rattle.std.specs.Prelude.{fold, ◌&&◌, nat_le}
 use Rattle.hs_points_read.specs.declared.tree.Data.{Data}
-use Rattle.hs_points_read.specs.declared.tree.Entailment.{Entailment}
-use Rattle.hs_points_read.specs.Sound.{is_among, noted, distinct_names, names_in, names_in_side}
+use Rattle.hs_points_read.specs.Sound.{is_among, noted}
+use Rattle.hs_points_read.proofs.Tests.{and_left}
 use Rattle.hs_points_read.specs.Check.{all_now, is_lower, are_distinct, data_name, data_is_sound, names_are_sound, types_are_sound}
-
-pub and_left : (a b : Bool) → (a && b) ≡ true → a ≡ true
-and_left true b e = refl
-and_left false b e = absurd cc
-
-pub and_right : (a b : Bool) → (a && b) ≡ true → b ≡ true
-and_right true b e = e
-and_right false b e = absurd cc
 
 pub names_few : (names : List (List ℕ)) → names_are_sound names ≡ true → length names ≤ 1000
 unfolding names_are_sound

@@ -1,7 +1,7 @@
 -- Where variables occur, by the names.
-use Rattle.std.proofs.Common.{◌⊎◌, inl, inr, ◌≡◌, ◌≤◌, ◌<◌, ℕ, zero, suc, ◌+◌, Bool, true, false, cond, List, [], ◌∷◌, ◌++◌, map, refl, sym, ap, subst, ◌∙◌, eq-eqb, arith}
+use Rattle.std.proofs.Common.{inl, inr, ◌≡◌, ◌≤◌, ◌<◌, ℕ, zero, suc, ◌+◌, Bool, true, false, List, [], ◌∷◌, map, refl, sym, ap, ◌∙◌, eq-eqb, arith}
 use Rattle.std.specs.Prelude.{◌||◌, ◌&&◌, nat_eq}
-use Rattle.std.specs.List.{list_any, flat_map, AllByRecursion}
+use Rattle.std.specs.List.{list_any, flat_map}
 use Rattle.std.proofs.lemmas.Bool.Decides.{nat_tests, leb_tells}
 use Rattle.std.proofs.lemmas.List.Folds.{list_any-append}
 use mathlib.Core.Bool.{beq}
@@ -16,14 +16,11 @@ use Rattle.hs_points_read.specs.declared.tree.EquationTree.{EquationTree}
 use Rattle.hs_points_read.specs.declared.tree.TermTree.{TermTree}
 use Rattle.hs_points_read.specs.declared.tree.TermTree.TheVariants.{Null, Name}
 use Rattle.hs_points_read.specs.Sound.{atoms_in, names_in_atom, names_in_term, names_in_equation, names_in_side}
-use Rattle.hs_points_read.specs.Normal.{place_from, var_of, atom_of, term_of, equation_of, side_of, vars_after}
-use Rattle.hs_points_read.proofs.Limits.{and_left, and_right}
-use Rattle.hs_points_read.proofs.Places.{or_case}
+use Rattle.hs_points_read.specs.Normal.{var_of, atom_of, term_of, equation_of, side_of, vars_after}
+use Rattle.hs_points_read.proofs.Turns.{number_var}
+use Rattle.hs_points_read.proofs.Tests.{and_left, and_right, or_left, or_right, or_case}
 
 -- ---- one variable
-
-abbrev number_var : ℕ → Var
-number_var n = record { number = n; bag = false }
 
 is_false : (b : Bool) → beq b false ≡ true → b ≡ false
 is_false true e = absurd cc
@@ -94,17 +91,10 @@ after_numbers v n (suc count) e =
     (λ here. let is = same_number v (n + 1) here in (omega (arith, is.0), omega (arith, is.0), is.1))
     (λ later. let more = after_numbers v (n + 1) count later in (omega (arith, more.0), omega (arith, more.1), more.2))
 
-in_or : (a b : Bool) → a ≡ true → (a || b) ≡ true
-in_or a b e = ap (λ c. c || b) e
-
-or_in : (a b : Bool) → b ≡ true → (a || b) ≡ true
-or_in true b e = refl
-or_in false b e = e
-
 pub number_after : (v : Var) (n count : ℕ) → n < v.number → v.number ≤ n + count → v.bag ≡ false → is_in v (vars_after n count) ≡ true
 number_after v n zero low high bag = absurd (omega (arith, low, high))
 number_after v n (suc count) low high bag =
     elim (leb_tells v.number (n + 1)) [
-      | inl here ↦ in_or (same v (number_var (n + 1))) (is_in v (vars_after (n + 1) count)) (same-number v (n + 1) (omega (arith, here.1, low)) bag)
-      | inr more ↦ or_in (same v (number_var (n + 1))) (is_in v (vars_after (n + 1) count)) (number_after v (n + 1) count more.1 (omega (arith, high)) bag)
+      | inl here ↦ or_left (same v (number_var (n + 1))) (is_in v (vars_after (n + 1) count)) (same-number v (n + 1) (omega (arith, here.1, low)) bag)
+      | inr more ↦ or_right (same v (number_var (n + 1))) (is_in v (vars_after (n + 1) count)) (number_after v (n + 1) count more.1 (omega (arith, high)) bag)
     ]

@@ -1,5 +1,5 @@
 -- What the reader's answer says of the bytes.
-use Rattle.std.proofs.Common.{◌≡◌, ◌≢◌, ℕ, List, Option, None, Some, Result, Ok, Err, refl, sym, ap, subst, ◌∙◌}
+use Rattle.std.proofs.Common.{◌≡◌, ℕ, List, Option, None, Some, Result, Ok, Err, refl, sym, ap, subst, ◌∙◌}
 use Rattle.std.specs.Prelude.{IfErr, IfOk}
 use Rattle.std.specs.Str.{IsUtf8}
 use Rattle.hs_lex.specs.Tokens.{HasTokens, HasLexCause}
@@ -11,17 +11,16 @@ use Rattle.hs_points.specs.declared.claim.Resolved.{Resolved}
 use Rattle.hs_points_read.specs.declared.error.ReadError.{ReadError}
 use Rattle.hs_points_read.specs.declared.error.ReadError.TheVariants.{NoSource, Memory}
 use Rattle.hs_points_read.specs.declared.tree.Source.{Source}
-use Rattle.hs_points_read.specs.Words.{Word, words_of}
-use Rattle.hs_points_read.specs.Spelling.{LITERAL_LIMIT, Spells, IsSourceOf}
+use Rattle.hs_points_read.specs.Words.{words_of}
+use Rattle.hs_points_read.specs.Spelling.{LITERAL_LIMIT}
 use Rattle.hs_points_read.specs.Normal.{IsResolved}
 use Rattle.hs_points_read.specs.Parser.{Gives}
 use Rattle.hs_points_read.specs.Parse.{source_of}
-use Rattle.hs_points_read.specs.Check.{resolved_of}
 use Rattle.hs_points_read.specs.Read.{refusal, resolved_from, read_of, NoTokens, Unread, ReadingsAreUnique}
 use Rattle.hs_points_read.proofs.Spelled.{source_of-Spells}
 use Rattle.hs_points_read.proofs.Reread.{source_of-again}
 use Rattle.hs_points_read.proofs.Steps.{some_is}
-use Rattle.hs_points_read.proofs.Checked.{Passes, the_resolved, resolved_of-Passes, resolved_of-sound}
+use Rattle.hs_points_read.proofs.Checked.{the_resolved, resolved_of-Passes, resolved_of-sound}
 
 -- ---- from an answer to the source
 

@@ -1,32 +1,17 @@
 -- Where names stand among the distinct names of a list.
-use Rattle.std.proofs.Common.{◌⊎◌, inl, inr, eq-eqb, ◌≡◌, ◌≢◌, ◌≤◌, ◌<◌, ℕ, zero, suc, ◌+◌, ◌-◌, Bool, true, false, cond, List, [], ◌∷◌, ◌++◌, length, length-append, append_assoc, append-nil, refl, sym, ap, subst, ◌∙◌, arith}
+use Rattle.std.proofs.Common.{inl, inr, eq-eqb, ◌≡◌, ◌≤◌, ◌<◌, ℕ, suc, ◌+◌, Bool, true, false, cond, List, [], ◌∷◌, ◌++◌, length, length-append, append_assoc, append-nil, refl, sym, ap, ◌∙◌, arith}
 use Rattle.std.specs.Prelude.{fold, ◌||◌, nat_eq}
 use Rattle.std.specs.List.{list_any, AllByRecursion}
 use Rattle.std.specs.Str.{bytes_eq}
 use Rattle.std.proofs.lemmas.Bool.Decides.{leb_tells}
 use Rattle.std.proofs.lemmas.List.Folds.{list_any-append}
-use Rattle.std.proofs.lemmas.Slice.Eq.{bytes_eq-Decides}
 use Rattle.hs_points_read.specs.Sound.{is_among, noted}
 use Rattle.hs_points_read.specs.Normal.{place_from}
+use Rattle.hs_points_read.proofs.Tests.{or_left, or_right, or_none}
 use Rattle.hs_points_read.proofs.Keys.{bytes_eq-sym}
 use Rattle.hs_points_read.proofs.Steps.{bytes_eq-refl}
 
 -- ---- what is among names
-
-or_left : (a b : Bool) → a ≡ true → (a || b) ≡ true
-or_left a b e = ap (λ c. c || b) e
-
-or_right : (a b : Bool) → b ≡ true → (a || b) ≡ true
-or_right true b e = refl
-or_right false b e = e
-
-or_none : (a b : Bool) → (a || b) ≡ false → (a ≡ false) × (b ≡ false)
-or_none true b e = absurd cc
-or_none false b e = (refl, e)
-
-pub or_case : (G : Type 0) (a b : Bool) → (a || b) ≡ true → (a ≡ true → G) → (b ≡ true → G) → G
-or_case G true b e first second = first refl
-or_case G false b e first second = second e
 
 among-append : (name : List ℕ) (known more : List (List ℕ)) → is_among name known ≡ true → is_among name (known ++ more) ≡ true
 among-append name known more e = list_any-append (bytes_eq name) known more ∙ or_left (is_among name known) (is_among name more) e

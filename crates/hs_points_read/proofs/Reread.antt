@@ -1,5 +1,5 @@
 -- What is spelled is read again.
-use Rattle.std.proofs.Common.{◌≡◌, ◌≢◌, ℕ, ◌+◌, ◌≤◌, Bool, true, false, cond, List, [], ◌∷◌, ◌++◌, length, length-append, Option, None, Some, refl, sym, ap, subst, ◌∙◌, append_assoc, append-nil, arith}
+use Rattle.std.proofs.Common.{◌≡◌, ℕ, ◌≤◌, Bool, true, false, cond, List, [], ◌∷◌, ◌++◌, length, Some, refl, sym, ap, ◌∙◌, append_assoc, append-nil, arith}
 use Rattle.std.specs.Prelude.{not, codes}
 use Rattle.std.specs.List.{flat_map, AllByRecursion}
 use Rattle.hs_lex.specs.declared.token.Sign.{Sign}
@@ -21,8 +21,8 @@ use Rattle.hs_points_read.specs.declared.tree.TermTree.{TermTree}
 use Rattle.hs_points_read.specs.declared.tree.TermTree.TheVariants.{Null, Name}
 use Rattle.hs_points_read.specs.Words.{Word, named, sign}
 use Rattle.hs_points_read.specs.Spelling.{IsName, spelled_name, each_after, separated, spelled_kind, spelled_field, spelled_data, spelled_atom, spelled_term, spelled_equation, spelled_heap, spelled_side, spelled_entailment, spelled_item, spelled, KindIsNamed, FieldIsNamed, AtomIsNamed, TermIsNamed, EquationIsNamed, IsPresent, SideIsNamed, ItemIsNamed, Spells}
-use Rattle.hs_points_read.specs.Parser.{Outcome, Parser, ◌>>◌, and_then, same_sign, sees, next, sees_key, expect, expect_key, name, has_more, repeated, all_of}
-use Rattle.hs_points_read.specs.Parse.{more, kind, field, fields, data_type, args, atom, atoms, term, equation, more_equations, equations, sees_atom, with_heap, bare, side, entailment, item, all_items, source_of, whole, ended}
+use Rattle.hs_points_read.specs.Parser.{Parser, ◌>>◌, and_then, same_sign, sees, next, sees_key, expect, expect_key, name, has_more, all_of}
+use Rattle.hs_points_read.specs.Parse.{more, kind, field, fields, data_type, args, atom, atoms, term, equation, more_equations, equations, sees_atom, with_heap, bare, side, entailment, item, all_items, source_of, whole}
 use Rattle.hs_points_read.proofs.Steps.{took, step, sees-sign, expect-sign, sees_key-key, expect_key-key, sees_key-name, name-named, all_of-again, each_after-flat_map}
 
 -- what the answer is spelled by is read again

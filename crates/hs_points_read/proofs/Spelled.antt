@@ -1,5 +1,5 @@
 -- What is read is spelled so.
-use Rattle.std.proofs.Common.{◌≡◌, ◌≢◌, ℕ, Bool, true, false, List, [], ◌∷◌, ◌++◌, Option, None, Some, refl, sym, ap, subst, ◌∙◌, append_assoc, append-nil}
+use Rattle.std.proofs.Common.{◌≡◌, ◌≢◌, ℕ, List, [], ◌∷◌, ◌++◌, None, Some, refl, sym, ap, subst, ◌∙◌, append_assoc, append-nil}
 use Rattle.std.specs.Prelude.{not, codes}
 use Rattle.std.specs.List.{flat_map, AllByRecursion}
 use Rattle.hs_lex.specs.declared.token.Sign.{Sign}
@@ -13,14 +13,13 @@ use Rattle.hs_points_read.specs.declared.tree.Kind.{Kind}
 use Rattle.hs_points_read.specs.declared.tree.Kind.TheVariants.{Int, Named}
 use Rattle.hs_points_read.specs.declared.tree.Entailment.{Entailment}
 use Rattle.hs_points_read.specs.declared.tree.SideTree.{SideTree}
-use Rattle.hs_points_read.specs.declared.tree.HeapTree.{HeapTree}
-use Rattle.hs_points_read.specs.declared.tree.HeapTree.TheVariants.{Absent, Emp, Atoms}
+use Rattle.hs_points_read.specs.declared.tree.HeapTree.TheVariants.{Emp, Atoms}
 use Rattle.hs_points_read.specs.declared.tree.PointsTo.{PointsTo}
 use Rattle.hs_points_read.specs.declared.tree.EquationTree.{EquationTree}
 use Rattle.hs_points_read.specs.declared.tree.TermTree.{TermTree}
 use Rattle.hs_points_read.specs.declared.tree.TermTree.TheVariants.{Null, Name}
 use Rattle.hs_points_read.specs.Words.{Word, named, sign}
-use Rattle.hs_points_read.specs.Spelling.{IsName, spelled_name, each_after, separated, spelled_kind, spelled_field, spelled_data, spelled_atom, spelled_term, spelled_equation, spelled_side, spelled_entailment, spelled_item, spelled, KindIsNamed, FieldIsNamed, AtomIsNamed, TermIsNamed, EquationIsNamed, SideIsNamed, ItemIsNamed, Spells}
+use Rattle.hs_points_read.specs.Spelling.{IsName, spelled_name, each_after, separated, spelled_kind, spelled_field, spelled_atom, spelled_term, spelled_equation, spelled_side, spelled_item, KindIsNamed, FieldIsNamed, AtomIsNamed, TermIsNamed, EquationIsNamed, SideIsNamed, ItemIsNamed, Spells}
 use Rattle.hs_points_read.specs.Parser.{Outcome, Parser, ◌>>◌, and_then, sees, next, sees_key, expect, name, has_more}
 use Rattle.hs_points_read.specs.Parse.{more, kind, field, fields, data_type, args, atom, atoms, term, equation, more_equations, equations, sees_atom, with_heap, bare, side, entailment, item, all_items, source_of, whole, ended}
 use Rattle.hs_points_read.proofs.Steps.{took, Says, answered, then_part, then_sign, then_key, either, sees_key-word, name-says, all_of-says, each_after-flat_map}

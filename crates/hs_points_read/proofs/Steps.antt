@@ -1,5 +1,5 @@
 -- What each step of a reader took, and that it takes what is spelled.
-use Rattle.std.proofs.Common.{◌≡◌, ◌≢◌, ℕ, zero, suc, ◌+◌, ◌≤◌, Bool, true, false, cond, rules, List, [], ◌∷◌, ◌++◌, length, drop, Option, None, Some, refl, sym, ap, subst, ◌∙◌, append_assoc, append-nil, length-append, eq-eqb, arith}
+use Rattle.std.proofs.Common.{◌≡◌, ℕ, zero, suc, ◌≤◌, Bool, true, false, cond, rules, List, [], ◌∷◌, ◌++◌, length, None, Some, refl, sym, ap, subst, ◌∙◌, append_assoc, append-nil, length-append, eq-eqb, arith}
 use Rattle.std.specs.List.{flat_map, AllByRecursion}
 use Rattle.std.specs.Str.{bytes_eq}
 use Rattle.std.proofs.lemmas.Slice.Eq.{bytes_eq-Decides}
@@ -7,8 +7,8 @@ use denote.Enum.Bare.{same_true}
 use Rattle.hs_lex.specs.declared.token.Sign.{Sign}
 use Rattle.hs_lex.specs.contracts.token.Sign.{the_type}
 use Rattle.hs_points_read.specs.Words.{Word, named, sign, other, is_keyword}
-use Rattle.hs_points_read.specs.Spelling.{IsName, spelled_name, each_after, separated}
-use Rattle.hs_points_read.specs.Parser.{Outcome, Parser, and_then, text_in, first_text, sign_in, first_sign, same_sign, is_sign, sees, is_text, sees_key, next, expect, expect_key, name, name_from, repeated, all_of}
+use Rattle.hs_points_read.specs.Spelling.{IsName, spelled_name, each_after}
+use Rattle.hs_points_read.specs.Parser.{Outcome, Parser, and_then, text_in, sign_in, same_sign, is_sign, sees, is_text, sees_key, next, expect, expect_key, name, name_from, repeated, all_of}
 
 -- ---- one word
 

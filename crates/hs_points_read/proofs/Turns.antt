@@ -6,7 +6,7 @@ use Rattle.hs_points_read.specs.Normal.{vars_after}
 pub one_more : {X : Type 0} {x : X} (f : ℕ → X) (n at : ℕ) → at < n → x ≡ f (n - at) → x ≡ f (suc (n - (at + 1)))
 one_more f n at below e = let turn : n - at ≡ suc (n - (at + 1)) = omega arith in e ∙ ap f turn
 
-abbrev number_var : ℕ → Var
+abbrev pub number_var : ℕ → Var
 number_var n = record { number = n; bag = false }
 
 pub one_more_var : (whole all new : List Var) (number last : ℕ) → number < last → all ++ vars_after number (last - number) ≡ whole

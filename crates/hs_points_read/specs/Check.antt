@@ -1,5 +1,5 @@
 -- The tests of a source as functions, and what they let through.
-use Rattle.std.specs.Prelude.{ℕ, ◌+◌, ◌&&◌, Bool, true, false, not, nat_le, nat_eq, if◌then◌else◌, List, [], ◌∷◌, ◌++◌, length, map, Option, None, Some}
+use Rattle.std.specs.Prelude.{ℕ, ◌&&◌, Bool, true, false, not, nat_le, nat_eq, if◌then◌else◌, List, [], ◌∷◌, length, map, Option, None, Some}
 use Rattle.std.specs.List.{list_all}
 use Rattle.std.specs.Option.{is_some}
 use denote.Ref.{Bor}
@@ -14,7 +14,7 @@ use Rattle.hs_points_read.specs.declared.tree.Entailment.{Entailment}
 use Rattle.hs_points_read.specs.declared.tree.SideTree.{SideTree}
 use Rattle.hs_points_read.specs.declared.tree.PointsTo.{PointsTo}
 use Rattle.hs_points_read.specs.Sound.{data_types, entailments, atoms_in, is_among, distinct_names, names_in, is_upper, find_data}
-use Rattle.hs_points_read.specs.Normal.{claim_of, claims_of, defs_of}
+use Rattle.hs_points_read.specs.Normal.{claim_of, defs_of}
 
 -- what the references point to
 abbrev pub all_now : {A : Type 0} → List (Bor A) → List A

@@ -1,5 +1,5 @@
 -- The reader of a source as a function over words, which the code equals.
-use Rattle.std.specs.Prelude.{ℕ, Bool, true, false, not, if◌then◌else◌, List, [], ◌∷◌, length, Option, None, Some, codes}
+use Rattle.std.specs.Prelude.{ℕ, Bool, not, if◌then◌else◌, List, [], ◌∷◌, Option, None, Some, codes}
 use Rattle.hs_lex.specs.declared.token.Sign.{Sign}
 use Rattle.hs_lex.specs.declared.token.Sign.TheVariants.{ColonColon, Turnstile, OpenBrace, CloseBrace, Less, Greater, Comma, Semicolon, Equals, Star, Amp}
 use Rattle.hs_points_read.specs.declared.tree.Source.{Source}
@@ -18,7 +18,7 @@ use Rattle.hs_points_read.specs.declared.tree.EquationTree.{EquationTree}
 use Rattle.hs_points_read.specs.declared.tree.TermTree.{TermTree}
 use Rattle.hs_points_read.specs.declared.tree.TermTree.TheVariants.{Null, Name}
 use Rattle.hs_points_read.specs.Words.{Word}
-use Rattle.hs_points_read.specs.Parser.{Parser, ◌>>=◌, ◌>>◌, ◌<$>◌, pure, and_then, next, sees, sees_key, expect, expect_key, name, repeated, all_of, has_more}
+use Rattle.hs_points_read.specs.Parser.{Parser, ◌>>=◌, ◌>>◌, ◌<$>◌, pure, next, sees, sees_key, expect, expect_key, name, all_of, has_more}
 
 -- ---- lists
 

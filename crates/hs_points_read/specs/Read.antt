@@ -1,6 +1,5 @@
 -- What the reader answers, by the tokens, and what that says of the bytes.
-use Rattle.std.specs.Prelude.{◌≡◌, ℕ, ◌^◌, List, Option, None, Some, Result, Ok, Err}
-use Rattle.std.specs.Global.{Vec}
+use Rattle.std.specs.Prelude.{◌≡◌, ℕ, List, Option, None, Some}
 use Rattle.hs_lex.specs.Tokens.{HasTokens}
 use Rattle.hs_lex.specs.declared.error.LexError.{LexError}
 use Rattle.hs_lex.specs.declared.error.LexError.TheVariants as lex

@@ -35,7 +35,7 @@ fn is_upper(name: &[u8]) -> bool
 {
     match name {
         [] => false,
-        [first, ..] => 65 <= *first && *first <= 90,
+        [first, ..] => b'A' <= *first && *first <= b'Z',
     }
 }
 

@@ -16,7 +16,7 @@ use Rattle.hs_pure.specs.Truth.{IsTrueAt, TrueAt}
 use Rattle.hs_pure.specs.Eval.{stack_of, found, found_bag, multiset_of, NumbersFit}
 use Rattle.hs_pure.specs.Values.{number_of, number_level, listed, listed_level, stack_at}
 use Rattle.hs_pure.specs.Answer.{Tells}
-use Rattle.hs_pure.specs.Size.{total}
+use Rattle.hs_pure.proofs.Size.{total}
 use Rattle.hs_pure.proofs.Views.{fold-And, fold-Or}
 use Rattle.hs_pure.proofs.Truths.{every-all, some-all, true-every, true-some, All-map_back, Any-map}
 use Rattle.hs_pure.proofs.EvalBags.{tells_iff}

@@ -15,6 +15,7 @@ pub mod Weight
 pub mod Listed
 pub mod EvalSums
 pub mod EvalBags
+pub mod Size
 pub mod Loops
 pub mod Divides
 pub mod EvalStack

@@ -1,13 +1,16 @@
 -- What the layers above use of formulas.
-use Rattle.std.specs.Prelude.{◌≡◌, ◌≤◌, ◌↔◌, IsTrue, List}
+use Rattle.std.specs.Prelude.{◌≡◌, ◌≤◌, ◌↔◌, IsTrue, ℤ, List}
 use Rattle.std.specs.List.{All, Any}
 use Rattle.hs_pure.specs.declared.var.Var.{Var}
 use Rattle.hs_pure.specs.declared.pure.Pure.{Pure}
 use Rattle.hs_pure.specs.declared.pure.Pure.TheVariants as pure_of
+use Rattle.hs_pure.specs.declared.valuation.Valuation.{Valuation}
+use Rattle.hs_pure.specs.Multiset
 use Rattle.hs_pure.specs.Stack.{Stack}
 use Rattle.hs_pure.specs.Truth.{TrueAt}
 use Rattle.hs_pure.specs.Occurs.{is_free, occurs, top_of, bag_use}
 use Rattle.hs_pure.specs.Rename.{renamed, InRange}
+use Rattle.hs_pure.specs.Eval.{stack_of, found_bag, listed_count}
 use Rattle.hs_pure.specs.Sums.{IsLight, IsOrdered, KeepsKinds}
 
 -- stacks that agree on the free variables give one truth
@@ -39,3 +42,7 @@ RenamedIsOrdered = (ρ : Var → Var) (p : Pure) → KeepsKinds ρ → IsOrdered
 -- a renaming leaves bag literals where they stand
 abbrev pub RenamedBagUse : Type 0
 RenamedBagUse = (ρ : Var → Var) (p : Pure) → bag_use (renamed ρ p) ≡ bag_use p
+
+-- a valuation gives each bag variable the counts that it lists
+abbrev pub ValuationCounts : Type 0
+ValuationCounts = (v : Valuation) (u : Var) (x : ℤ) → Multiset.count (stack_of v u).bag x ≡ listed_count (found_bag v.bags u) x

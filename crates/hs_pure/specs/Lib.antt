@@ -10,4 +10,3 @@ pub mod Laws
 pub mod Eval
 pub mod Values
 pub mod Answer
-pub mod Size

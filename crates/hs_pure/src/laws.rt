@@ -1,6 +1,6 @@
 //! Laws of formulas, for the proofs of the layers above. Each is the contract of a function without a body.
 
-ghost use Rattle.hs_pure.specs.Laws.{TruthIsOfFree, FreeOccurs, OccursBelowTop, AndIsAll, OrIsAny, LightIsInRange, RenamedIsLight, RenamedIsOrdered, RenamedBagUse};
+ghost use Rattle.hs_pure.specs.Laws.{TruthIsOfFree, FreeOccurs, OccursBelowTop, AndIsAll, OrIsAny, LightIsInRange, RenamedIsLight, RenamedIsOrdered, RenamedBagUse, ValuationCounts};
 
 /// Stacks that agree on the free variables of a formula give it the same truth.
 pub fn truth_is_of_free()
@@ -45,4 +45,9 @@ pub fn renamed_is_ordered()
 /// A renaming leaves the bag literals where they stand.
 pub fn renamed_bag_use()
     ensures { RenamedBagUse }
+{}
+
+/// A valuation gives each bag variable the counts that it lists.
+pub fn valuation_counts()
+    ensures { ValuationCounts }
 {}

@@ -1,8 +1,6 @@
-use Rattle.std.proofs.Common.{◌≡◌, ◌+◌, drop, map, length}
-use Rattle.std.specs.List.{list_all}
-use Rattle.hs_points_read.specs.Check as spec
-use Rattle.hs_points_read.specs.Check.{all_now, data_name, field_name}
-use Rattle.hs_points_read.specs.Sound.{find_data, is_among}
+use Rattle.std.proofs.Common.{◌≡◌, ◌+◌, drop}
+use Rattle.hs_points_read.specs.Check.{all_now}
+use Rattle.hs_points_read.specs.Sound.{find_data}
 use Rattle.hs_points_read.proofs.check.find_type.Given as goal
 
 abbrev pub invariant-loop-declared : goal.invariant-loop-declared

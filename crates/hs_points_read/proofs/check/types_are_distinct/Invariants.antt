@@ -1,8 +1,6 @@
-use Rattle.std.proofs.Common.{◌≡◌, ◌+◌, drop, map, length}
-use Rattle.std.specs.List.{list_all}
+use Rattle.std.proofs.Common.{◌≡◌, map, length}
 use Rattle.hs_points_read.specs.Check as spec
 use Rattle.hs_points_read.specs.Check.{all_now, data_name, field_name}
-use Rattle.hs_points_read.specs.Sound.{find_data, is_among}
 use Rattle.hs_points_read.proofs.check.types_are_distinct.Given as goal
 
 abbrev pub invariant-loop-rest : goal.invariant-loop-rest

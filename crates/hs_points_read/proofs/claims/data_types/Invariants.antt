@@ -1,9 +1,7 @@
-use Rattle.std.proofs.Common.{◌≡◌, ◌+◌, ◌-◌, ◌++◌, drop, take, map, length}
-use Rattle.std.specs.List.{list_all, filter_map}
-use Rattle.hs_points_read.specs.Check as check
+use Rattle.std.proofs.Common.{◌≡◌, ◌++◌, drop}
+use Rattle.std.specs.List.{filter_map}
 use Rattle.hs_points_read.specs.Check.{all_now}
-use Rattle.hs_points_read.specs.Normal as spec
-use Rattle.hs_points_read.specs.Sound.{data_in, entailment_in}
+use Rattle.hs_points_read.specs.Sound.{data_in}
 use Rattle.hs_points_read.proofs.claims.data_types.Given as goal
 
 abbrev pub invariant-loop-item : goal.invariant-loop-item

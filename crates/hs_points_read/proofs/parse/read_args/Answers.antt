@@ -1,8 +1,7 @@
 use Rattle.std.proofs.Common.{rules, arith}
 use Rattle.std.proofs.lemmas.Grind.{common_steps}
-use Rattle.hs_points_read.specs.Parser.{repeated, expect, after, ◌>>◌, sees, name, has_more}
-use Rattle.hs_lex.specs.declared.token.Sign.TheVariants.{CloseBrace, Comma, Star, Amp}
-use Rattle.std.specs.Prelude.{not}
+use Rattle.hs_points_read.specs.Parser.{repeated, expect, after, ◌>>◌, sees, name}
+use Rattle.hs_lex.specs.declared.token.Sign.TheVariants.{Comma}
 use Rattle.hs_points_read.proofs.Turns.{one_more}
 use Rattle.hs_points_read.proofs.parse.read_args.Goals as goal
 

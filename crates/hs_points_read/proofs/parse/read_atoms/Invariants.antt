@@ -1,7 +1,6 @@
 use Rattle.std.proofs.Common.{◌≡◌, ◌-◌}
-use Rattle.hs_points_read.specs.Parser.{repeated, expect, ◌>>◌, sees, name, has_more}
-use Rattle.hs_lex.specs.declared.token.Sign.TheVariants.{CloseBrace, Comma, Star, Amp}
-use Rattle.std.specs.Prelude.{not}
+use Rattle.hs_points_read.specs.Parser.{repeated, expect, ◌>>◌, sees}
+use Rattle.hs_lex.specs.declared.token.Sign.TheVariants.{Star}
 use Rattle.hs_points_read.specs.Parse.{atoms, atom}
 use Rattle.hs_points_read.proofs.parse.read_atoms.Given as goal
 

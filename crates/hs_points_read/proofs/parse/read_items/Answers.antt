@@ -1,8 +1,6 @@
 use Rattle.std.proofs.Common.{rules, arith}
 use Rattle.std.proofs.lemmas.Grind.{common_steps}
-use Rattle.hs_points_read.specs.Parser.{repeated, expect, after, ◌>>◌, sees, name, has_more}
-use Rattle.hs_lex.specs.declared.token.Sign.TheVariants.{CloseBrace, Comma, Star, Amp}
-use Rattle.std.specs.Prelude.{not}
+use Rattle.hs_points_read.specs.Parser.{repeated, has_more}
 use Rattle.hs_points_read.specs.Parse.{item}
 use Rattle.hs_points_read.proofs.Turns.{one_more}
 use Rattle.hs_points_read.proofs.parse.read_items.Goals as goal

@@ -1,7 +1,5 @@
 use Rattle.std.proofs.Common.{◌≡◌, ◌-◌}
-use Rattle.hs_points_read.specs.Parser.{repeated, expect, ◌>>◌, sees, name, has_more}
-use Rattle.hs_lex.specs.declared.token.Sign.TheVariants.{CloseBrace, Comma, Star, Amp}
-use Rattle.std.specs.Prelude.{not}
+use Rattle.hs_points_read.specs.Parser.{repeated, has_more}
 use Rattle.hs_points_read.specs.Parse.{all_items, item}
 use Rattle.hs_points_read.proofs.parse.read_items.Given as goal
 

@@ -9,7 +9,7 @@ use Rattle.hs_pure.specs.Assertion.{bag_eq, subset, all_of, pure_level, bag_term
 use Rattle.hs_pure.specs.Truth.{count, IsTrueAt, TrueAt}
 use Rattle.hs_pure.specs.Eval.{has_quantifiers, CountFits, NumbersFit}
 use Rattle.hs_pure.specs.Stack.{Stack, with_value, number_value}
-use Rattle.hs_pure.specs.Size.{pure_size, total}
+use Rattle.hs_pure.proofs.Size.{pure_size, total}
 use Rattle.hs_pure.specs.Answer.{Tells}
 use Rattle.hs_pure.specs.Values.{stack_at, BodyFits, BodyHolds}
 use Rattle.hs_pure.proofs.Views.{fold-BagEq, fold-Subset, fold-AllOf}

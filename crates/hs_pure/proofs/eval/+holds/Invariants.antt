@@ -3,7 +3,7 @@ use Rattle.std.specs.List.{All, Any}
 use Rattle.hs_pure.specs.Assertion.{bag_term_of, assertion_of}
 use Rattle.hs_pure.specs.Truth.{TrueAt}
 use Rattle.hs_pure.specs.Eval.{NumbersFit}
-use Rattle.hs_pure.specs.Size.{bag_size, pure_size, total}
+use Rattle.hs_pure.proofs.Size.{bag_size, pure_size, total}
 use Rattle.hs_pure.specs.Values.{stack_at, BodyFits, BodyHolds}
 use Rattle.hs_pure.proofs.eval.+holds.Given as goal
 

@@ -1,7 +1,6 @@
-use Rattle.std.proofs.Common.{◌≡◌, ◌++◌, drop, map}
-use Rattle.std.specs.Prelude.{fold, Some}
-use Rattle.std.specs.List.{flat_map, list_all}
-use Rattle.std.specs.String.{string_bytes}
+use Rattle.std.proofs.Common.{◌≡◌, drop}
+use Rattle.std.specs.Prelude.{fold}
+use Rattle.std.specs.List.{flat_map}
 use Rattle.hs_points_read.specs.Sound.{noted, names_in_atom}
 use Rattle.hs_points_read.proofs.numbering.Numbering.note_atoms.Given as goal
 
