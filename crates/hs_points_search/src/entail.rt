@@ -14,7 +14,8 @@ use hs_pure::{NoMemory, Var};
 use std::alloc::Global;
 
 /// Looks for a derivation of the claim. Its answer is exact: `Valid` where there is one, with its residue, and
-/// `Unknown` with the blame where there is none. The data types are those of the claim's atoms.
+/// `Unknown` with the blame where there is none. The data types are those of the claim's atoms. The error is want
+/// of memory.
 pub fn search(alloc: Global, defs: &Defs, claim: &Claim) -> Result<Outcome, NoMemory>
     requires { ClaimFits defs.now claim.now }
     ensures { IfOk result (IsOutcome (start claim.now)) }
