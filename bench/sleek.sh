@@ -1,0 +1,48 @@
+#!/usr/bin/env bash
+# Times `hipsleek sleek` on generated sources of growing size: bench/sleek.sh PROGRAM
+# Prints a table of the source, its bytes, seconds and peak memory in MB.
+set -eu
+program=$(realpath "$1")
+folder=$(mktemp -d)
+trap 'rm -rf "$folder"' EXIT
+cd "$folder"
+
+node='data node { int val; node next; }'
+
+claims() { # claims COUNT: so many entailments of one atom
+  echo "$node"
+  for _ in $(seq "$1"); do echo 'entail x::node<a, p> |- x::node<b, q>;'; done
+}
+
+chain() { # chain COUNT: one entailment of a list of so many atoms
+  echo "$node"
+  printf 'entail x1::node<a1, x2>'
+  for i in $(seq 2 "$1"); do printf ' * x%d::node<a%d, x%d>' "$i" "$i" $((i + 1)); done
+  printf ' |- x1::node<b1, y2>'
+  for i in $(seq 2 "$1"); do printf ' * y%d::node<b%d, y%d>' "$i" "$i" $((i + 1)); done
+  echo ';'
+}
+
+equations() { # equations COUNT: one entailment of so many equations a side
+  printf 'entail a0 = null'
+  for i in $(seq "$1"); do printf ' & a%d = a%d' $((i % 900)) $(((i + 1) % 900)); done
+  printf ' |- a0 = null'
+  for i in $(seq "$1"); do printf ' & a%d = a%d' $(((i + 2) % 900)) $((i % 900)); done
+  echo ';'
+}
+
+blanks() { # blanks BYTES: blanks and comments alone
+  head -c "$1" < <(yes '  // nothing but a comment')
+}
+
+measure() { # measure NAME: times the program on the file NAME
+  /usr/bin/env TIMEFORMAT=%R bash -c "time '$program' sleek '$1' > out" 2> seconds || true
+  peak=$( (command -v /usr/bin/time > /dev/null && /usr/bin/time -f %M "$program" sleek "$1" 2>&1 > /dev/null | tail -n 1) || echo 0)
+  printf '%-18s %9d %8s %8s\n' "$1" "$(stat -c %s "$1")" "$(cat seconds)" "$((peak / 1024))"
+}
+
+printf '%-18s %9s %8s %8s\n' source bytes seconds MB
+for count in 64 256 1024; do claims $count > claims-$count; measure claims-$count; done
+for count in 16 64; do chain $count > chain-$count; measure chain-$count; done
+for count in 1000 10000 40000; do equations $count > equations-$count; measure equations-$count; done
+for bytes in 262144 1048576; do blanks $bytes > blanks-$bytes; measure blanks-$bytes; done
