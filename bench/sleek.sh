@@ -44,5 +44,5 @@ measure() { # measure NAME: times the program on the file NAME
 printf '%-18s %9s %8s %8s\n' source bytes seconds MB
 for count in 64 256 1024; do claims $count > claims-$count; measure claims-$count; done
 for count in 16 64; do chain $count > chain-$count; measure chain-$count; done
-for count in 1000 10000 40000; do equations $count > equations-$count; measure equations-$count; done
+for count in 1000 10000 36000; do equations $count > equations-$count; measure equations-$count; done
 for bytes in 262144 1048576; do blanks $bytes > blanks-$bytes; measure blanks-$bytes; done

@@ -1,0 +1,9 @@
+pub mod Merging
+pub mod Forms
+pub mod Changes
+pub mod Normals
+pub mod Surveys
+pub mod Joining
+pub mod Backs
+pub mod Thirds
+pub mod Whole

@@ -1,0 +1,12 @@
+use Rattle.std.proofs.Common.{arith, rules}
+use Rattle.hs_elimination.specs.Linear.{place}
+use Rattle.hs_cooper.specs.Reading.{form_of}
+use Rattle.hs_cooper.proofs.Thirds.{next_cases}
+use Rattle.hs_cooper.proofs.cases.all_cases.Goals as goal
+
+pub loop-j-preserved : goal.loop-j-preserved
+loop-j-preserved c = record {
+  same = search rules;
+  form = next_cases (place c.args.x) (form_of c.args.f.now) c.args.bounds.now c.loop-j.j _ _ (omega arith) c.loop-j.invariant.form c.in_ok-add_cases.ensures.form;
+  proper = search rules;
+}

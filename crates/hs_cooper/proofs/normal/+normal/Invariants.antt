@@ -1,0 +1,13 @@
+use Rattle.std.proofs.Common.{◌≡◌, map, take}
+use Rattle.hs_elimination.specs.Normal.{evaluate}
+use Rattle.hs_cooper.specs.Reading.{joined}
+use Rattle.hs_cooper.specs.Gathering.{gathered, HasProper}
+use Rattle.hs_cooper.specs.Normalizing.{side, first_stage}
+use Rattle.hs_cooper.proofs.normal.+normal.Given as goal
+
+abbrev pub invariant-normalize_all-loop-p : goal.invariant-normalize_all-loop-p
+invariant-normalize_all-loop-p l = record {
+  same : l.members.connective ≡ side l.positive l.fn.connective;
+  form : gathered l.members ≡ joined (side l.positive l.fn.connective) (map (λ p. evaluate (first_stage l.positive p)) (take l.p-index l.ps));
+  proper : HasProper l.members;
+}

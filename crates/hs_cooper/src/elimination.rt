@@ -1,0 +1,78 @@
+//! Elimination of a variable.
+
+ghost use Rattle.std.specs.Prelude.{◌≡◌, ◌≤◌, ◌^◌, ◌↔◌, ℤ, false, IfOk, IsErrOf, IsTrue};
+ghost use Rattle.hs_pure.specs.Assertion.{assertion_of};
+ghost use Rattle.hs_pure.specs.Stack.{Stack, with_value, number_value};
+ghost use Rattle.hs_pure.specs.Truth.{TrueAt};
+ghost use Rattle.hs_pure.specs.Occurs.{is_free};
+ghost use Rattle.hs_pure.specs.Sums.{IsOrdered};
+ghost use Rattle.hs_elimination.specs.Form.{IsWide};
+ghost use Rattle.hs_elimination.specs.Normal.{is_simple, evaluate};
+ghost use Rattle.hs_elimination.specs.Scaling.{stage2};
+ghost use Rattle.hs_elimination.specs.Elimination.{without_variable, StaysWithin, PassesAtoms, PassesBits};
+ghost use Rattle.hs_cooper.specs.Reading.{form_of, IsCanonical};
+ghost use Rattle.hs_cooper.specs.declared.stop.Refusal.TheVariants as refusal;
+ghost use Rattle.hs_cooper.specs.declared.stop.Stop.TheVariants.{Atoms, Wide};
+
+use crate::Stop;
+use crate::back::to_pure;
+use crate::change::{Change, apply};
+use crate::gather::Gathered;
+use crate::linear::single;
+use crate::nnf::{Connective, Literal, Nnf, Relation, evaluated};
+use crate::normal::{count_normal, normalize};
+use crate::sign::Sign;
+use crate::stop::Refusal;
+use crate::survey::{count_atoms, multiplier};
+use crate::third::third_stage;
+use hs_pure::{Pure, Var};
+use std::alloc::Global;
+
+// The second stage for `x`, evaluated.
+fn second_stage(alloc: Global, f: &Nnf, x: Var) -> Result<Nnf, Refusal>
+    ensures form { IfOk result (λ r. form_of r ≡ evaluate (stage2 x (form_of f.now))) }
+    ensures canonical { IfOk result IsCanonical }
+    ensures wide { IsErrOf result refusal.Wide → IsWide (stage2 x (form_of f.now)) }
+{
+    let Some(by) = multiplier(f, x, 1) else {
+        return Err(Refusal::Wide);
+    };
+    let mut members = Gathered::new(alloc, Connective::And);
+    members.add(apply(alloc, &Change::Scale(x, by), f)?)?;
+    let own = Literal {
+        relation: Relation::Multiple(by),
+        sum: single(alloc, x, Sign::Plus)?,
+    };
+    members.add(evaluated(own))?;
+    Ok(members.finish())
+}
+
+/// A formula without `x` that is true exactly where some integer, as `x`, makes `f` true: the result of plain
+/// elimination. `f` has neither quantifiers nor bag literals, its sums are in order, and `budget` is at most
+/// 2^30.
+///
+/// The first stage that passes a bound is the one that is answered: `Atoms` where it has more than `budget`
+/// atoms, and otherwise `Wide` where a number of it passes 128 bits.
+pub fn eliminate(alloc: Global, x: Var, f: &Pure, budget: u64) -> Result<Pure, Stop>
+    requires simple { IsTrue (is_simple (assertion_of f.now)) }
+    requires ordered { IsOrdered f.now }
+    requires small { budget ≤ 2 ^ 30 }
+    ensures exact { IfOk result (λ r. assertion_of r ≡ without_variable x (assertion_of f.now)) }
+    ensures truth { IfOk result (λ r. (s : Stack) → ((y : ℤ) × TrueAt (with_value x (number_value y) s) f.now) ↔ TrueAt s r) }
+    ensures lacks { IfOk result (λ r. is_free x r ≡ false) }
+    ensures ordered { IfOk result IsOrdered }
+    ensures within { IfOk result (λ _. StaysWithin budget x (assertion_of f.now)) }
+    ensures atoms { IsErrOf result Atoms → PassesAtoms budget x (assertion_of f.now) }
+    ensures wide { IsErrOf result Wide → PassesBits budget x (assertion_of f.now) }
+{
+    if count_normal(f, budget) > budget {
+        return Err(Stop::Atoms);
+    }
+    let normal = normalize(alloc, true, f)?;
+    if count_atoms(&normal, budget) >= budget {
+        return Err(Stop::Atoms);
+    }
+    let scaled = second_stage(alloc, &normal, x)?;
+    let cases = third_stage(alloc, &scaled, x, budget)?;
+    Ok(to_pure(alloc, &cases)?)
+}

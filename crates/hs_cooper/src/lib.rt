@@ -1,0 +1,25 @@
+//! Elimination of a variable from formulas of linear integer arithmetic, in 128-bit numbers.
+//!
+//! The results are those of plain elimination over unbounded integers, whose stages and laws stand in
+//! `hs_elimination`. Where a stage has more atoms than are allowed, or a number past 128 bits, the elimination
+//! stops and says so.
+#![tactic(auto)]
+
+mod back;
+mod bounds;
+mod cases;
+mod change;
+mod elimination;
+mod gather;
+mod lcm;
+mod linear;
+mod nnf;
+mod normal;
+mod period;
+mod sign;
+mod stop;
+mod survey;
+mod third;
+
+pub use elimination::eliminate;
+pub use stop::Stop;

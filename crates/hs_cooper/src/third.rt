@@ -1,0 +1,74 @@
+//! The third stage.
+
+ghost use Rattle.std.specs.Prelude.{◌≡◌, ◌+◌, ◌*◌, ◌≤◌, ◌<◌, ◌^◌, ◌⊎◌, ◌↔◌, IfOk, IsErrOf, IsTrue};
+ghost use Rattle.hs_elimination.specs.Linear.{place};
+ghost use Rattle.hs_elimination.specs.Form.{atoms, IsWide};
+ghost use Rattle.hs_elimination.specs.Normal.{evaluate};
+ghost use Rattle.hs_elimination.specs.Cases.{stage3};
+ghost use Rattle.hs_elimination.specs.Elimination.{HasWideSum};
+ghost use Rattle.hs_cooper.specs.Reading.{form_of, IsCanonical};
+ghost use Rattle.hs_cooper.specs.Changing.{HasUneven};
+ghost use Rattle.hs_cooper.specs.Surveying.{HasPositive};
+ghost use Rattle.hs_cooper.specs.declared.stop.Stop.TheVariants.{Atoms, Wide};
+
+use crate::Stop;
+use crate::bounds::join_bounds;
+use crate::cases::all_cases;
+use crate::linear::negate_all;
+use crate::nnf::Nnf;
+use crate::period::period;
+use crate::survey::{count_atoms, count_low};
+use hs_pure::Var;
+use sqlite_items::Items;
+use std::alloc::Global;
+
+// Whether `low` atoms, and `atoms` for each bound, are more than `budget` over a period.
+fn exceeds(period: u64, low: u64, atoms: u64, bounds: u64, budget: u64) -> bool
+    requires some { 0 < period }
+    requires small { budget < 2 ^ 31 }
+    ensures { IsTrue result ↔ (budget < period * (low + bounds * atoms)) }
+{
+    let Some(near) = bounds.checked_mul(atoms) else {
+        return true;
+    };
+    let Some(all) = low.checked_add(near) else {
+        return true;
+    };
+    match period.checked_mul(all) {
+        Some(total) => budget < total,
+        None => true,
+    }
+}
+
+// The third stage for `x`, evaluated.
+pub(crate) fn third_stage(alloc: Global, f: &Nnf, x: Var, budget: u64) -> Result<Nnf, Stop>
+    requires small { budget < 2 ^ 31 }
+    requires some { 1 ≤ budget }
+    requires within { atoms (form_of f.now) ≤ budget }
+    requires positive { HasPositive (form_of f.now) }
+    requires even { ¬ (HasUneven (place x) (form_of f.now)) }
+    ensures form { IfOk result (λ r. form_of r ≡ evaluate (stage3 x (form_of f.now))) }
+    ensures within { IfOk result (λ _. atoms (stage3 x (form_of f.now)) ≤ budget) }
+    ensures atoms { IsErrOf result Atoms → budget < atoms (stage3 x (form_of f.now)) }
+    ensures wide { IsErrOf result Wide
+        → ((atoms (stage3 x (form_of f.now)) ≤ budget) × (IsWide (stage3 x (form_of f.now)) ⊎ HasWideSum (place x) (form_of f.now))) }
+{
+    let Some(period) = period(f, x, 1, budget) else {
+        return Err(Stop::Atoms);
+    };
+    let atoms = count_atoms(f, budget);
+    let limit = if atoms == 0 { 0 } else { budget / atoms };
+    let mut denied = Items::new(alloc);
+    join_bounds(alloc, &mut denied, f, x, limit)?;
+    if exceeds(
+        period,
+        count_low(f, x, budget),
+        atoms,
+        denied.len() as u64,
+        budget,
+    ) {
+        return Err(Stop::Atoms);
+    }
+    let bounds = negate_all(alloc, denied.as_slice())?;
+    Ok(all_cases(alloc, f, x, bounds.as_slice(), period)?)
+}

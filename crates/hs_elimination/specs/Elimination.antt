@@ -1,0 +1,61 @@
+-- Plain elimination of a variable: its stages in order, and where one of them passes a bound.
+use Rattle.std.specs.Prelude.{ℕ, ◌≤◌, ◌<◌, ◌⊎◌, true, pos}
+use Rattle.std.specs.List.{Contains}
+use Rattle.hs_pure.specs.declared.var.Var.{Var}
+use Rattle.hs_pure.specs.declared.lin.Lin.{Lin}
+use Rattle.hs_pure.specs.Assertion.{Assertion}
+use Rattle.hs_elimination.specs.Linear.{place, plus, number, IsWideLin}
+use Rattle.hs_elimination.specs.Form.{Form, assertion, atoms, IsWide}
+use Rattle.hs_elimination.specs.Normal.{normal, evaluate}
+use Rattle.hs_elimination.specs.Scaling.{stage2}
+use Rattle.hs_elimination.specs.Cases.{distinct_bounds, period, stage3}
+
+-- the first stage
+abbrev pub normal_form : Assertion → Form
+normal_form p = normal true p
+
+-- the second stage
+abbrev pub scaled_form : Var → Assertion → Form
+scaled_form x p = stage2 x (evaluate (normal_form p))
+
+-- the third stage
+abbrev pub cases_form : Var → Assertion → Form
+cases_form x p = stage3 x (evaluate (scaled_form x p))
+
+-- what is left after the third stage
+abbrev pub eliminated : Var → Assertion → Form
+eliminated x p = evaluate (cases_form x p)
+
+-- the result as an assertion
+abbrev pub without_variable : Var → Assertion → Assertion
+without_variable x p = assertion (eliminated x p)
+
+-- ---- bounds
+
+-- a lower bound b of the formula, or a sum b + j of its third stage, passes 128 bits
+abbrev pub HasWideSum : ℕ → Form → Type 0
+HasWideSum x f = (b : Lin) × (Contains (distinct_bounds x f) b × (IsWideLin b ⊎ ((j : ℕ) × ((j ≤ period x f 1) × IsWideLin (plus b (number (pos j)))))))
+
+-- a number of the third stage passes 128 bits
+abbrev pub HasWideCases : Var → Assertion → Type 0
+HasWideCases x p = IsWide (cases_form x p) ⊎ HasWideSum (place x) (evaluate (scaled_form x p))
+
+-- no stage has more than `budget` atoms
+pub record StaysWithin (budget : ℕ) (x : Var) (p : Assertion) : Type 0 where
+  pub normal_atoms : atoms (normal_form p) ≤ budget
+  pub scaled_atoms : atoms (scaled_form x p) ≤ budget
+  pub cases_atoms : atoms (cases_form x p) ≤ budget
+
+-- the first stage that passes a bound has more than `budget` atoms
+abbrev pub PassesAtoms : ℕ → Var → Assertion → Type 0
+PassesAtoms budget x p =
+    (budget < atoms (normal_form p))
+    ⊎ ((atoms (normal_form p) ≤ budget) × (budget < atoms (scaled_form x p)))
+    ⊎ ((atoms (normal_form p) ≤ budget) × (atoms (scaled_form x p) ≤ budget) × (budget < atoms (cases_form x p)))
+
+-- no stage up to one with a number past 128 bits has more than `budget` atoms
+abbrev pub PassesBits : ℕ → Var → Assertion → Type 0
+PassesBits budget x p =
+    ((atoms (normal_form p) ≤ budget) × IsWide (normal_form p))
+    ⊎ ((atoms (normal_form p) ≤ budget) × (atoms (scaled_form x p) ≤ budget) × IsWide (scaled_form x p))
+    ⊎ ((atoms (normal_form p) ≤ budget) × (atoms (scaled_form x p) ≤ budget) × (atoms (cases_form x p) ≤ budget) × HasWideCases x p)

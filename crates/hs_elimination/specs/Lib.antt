@@ -1,0 +1,10 @@
+pub mod Linear
+pub mod Form
+pub mod Lcm
+pub mod Normal
+pub mod Scaling
+pub mod Cases
+pub mod Elimination
+pub mod Ordered
+pub mod Decided
+pub mod Laws
