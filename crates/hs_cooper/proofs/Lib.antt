@@ -7,3 +7,4 @@ pub mod Joining
 pub mod Backs
 pub mod Thirds
 pub mod Whole
+pub mod Searches

@@ -28,15 +28,15 @@ atoms-Joined = measure-Joined atoms (λ b. refl) (λ f g. refl) (λ f g. refl)
 pub low-Joined : (x : ℕ) (f : Nnf) (c : Connective) (fs : List Nnf) → f ≡ nnf_of.Joined c fs → sum (map (λ g. low_atoms x (form_of g)) fs) ≡ low_atoms x (form_of f)
 low-Joined x = measure-Joined (low_atoms x) (λ b. refl) (λ f g. refl) (λ f g. refl)
 
--- a number that is passed from member to member
+-- what is passed from member to member
 
-module _ (h : Form → ℕ → ℕ) (all : List Nnf → ℕ → ℕ) (all_none : (m : ℕ) → all [] m ≡ m) (all_one : (f : Nnf) (fs : List Nnf) (m : ℕ) → all (f ∷ fs) m ≡ all fs (h (form_of f) m)) where
-  passed-fold : (op : Form → Form → Form) → ((f g : Form) (m : ℕ) → h (op f g) m ≡ h g (h f m)) → (f : Form) (fs : List Nnf) (m : ℕ) → h (fold op f (map form_of fs)) m ≡ all fs (h f m)
+module _ {M : Type 0} (h : Form → M → M) (all : List Nnf → M → M) (all_none : (m : M) → all [] m ≡ m) (all_one : (f : Nnf) (fs : List Nnf) (m : M) → all (f ∷ fs) m ≡ all fs (h (form_of f) m)) where
+  passed-fold : (op : Form → Form → Form) → ((f g : Form) (m : M) → h (op f g) m ≡ h g (h f m)) → (f : Form) (fs : List Nnf) (m : M) → h (fold op f (map form_of fs)) m ≡ all fs (h f m)
   passed-fold op is f [] m = sym (all_none (h f m))
   passed-fold op is f (g ∷ fs) m = passed-fold op is (op f (form_of g)) fs m ∙ ap (all fs) (is f (form_of g) m) ∙ sym (all_one g fs (h f m))
 
-  pub passed-listed : ((b : Bool) (m : ℕ) → h (const b) m ≡ m) → ((f g : Form) (m : ℕ) → h (conjunction f g) m ≡ h g (h f m)) → ((f g : Form) (m : ℕ) → h (disjunction f g) m ≡ h g (h f m))
-      → (c : Connective) (fs : List Nnf) (m : ℕ) → h (listed c (map form_of fs)) m ≡ all fs m
+  pub passed-listed : ((b : Bool) (m : M) → h (const b) m ≡ m) → ((f g : Form) (m : M) → h (conjunction f g) m ≡ h g (h f m)) → ((f g : Form) (m : M) → h (disjunction f g) m ≡ h g (h f m))
+      → (c : Connective) (fs : List Nnf) (m : M) → h (listed c (map form_of fs)) m ≡ all fs m
   passed-listed none both either And [] m = none true m ∙ sym (all_none m)
   passed-listed none both either Or [] m = none false m ∙ sym (all_none m)
   passed-listed none both either And (f ∷ fs) m = passed-fold conjunction both (form_of f) fs m ∙ sym (all_one f fs m)

@@ -7,3 +7,4 @@ pub mod Normalizing
 pub mod Surveying
 pub mod Bounding
 pub mod Casing
+pub mod Searching

@@ -1,15 +1,16 @@
 //! Elimination of a variable.
 
-ghost use Rattle.std.specs.Prelude.{◌≡◌, ◌≤◌, ◌^◌, ◌↔◌, ℤ, false, IfOk, IsErrOf, IsTrue};
+ghost use Rattle.std.specs.Prelude.{◌≡◌, ◌≤◌, ◌<◌, ◌^◌, ◌↔◌, ℤ, false, IfOk, IsErrOf, IsTrue};
 ghost use Rattle.hs_pure.specs.Assertion.{assertion_of};
 ghost use Rattle.hs_pure.specs.Stack.{Stack, with_value, number_value};
 ghost use Rattle.hs_pure.specs.Truth.{TrueAt};
 ghost use Rattle.hs_pure.specs.Occurs.{is_free};
 ghost use Rattle.hs_pure.specs.Sums.{IsOrdered};
-ghost use Rattle.hs_elimination.specs.Form.{IsWide};
+ghost use Rattle.hs_elimination.specs.Form.{atoms, IsWide};
+ghost use Rattle.hs_elimination.specs.Linear.{place};
 ghost use Rattle.hs_elimination.specs.Normal.{is_simple, evaluate};
-ghost use Rattle.hs_elimination.specs.Scaling.{stage2};
-ghost use Rattle.hs_elimination.specs.Elimination.{without_variable, StaysWithin, PassesAtoms, PassesBits};
+ghost use Rattle.hs_elimination.specs.Scaling.{multiplier, stage2};
+ghost use Rattle.hs_elimination.specs.Elimination.{normal_form, scaled_form, without_variable, StaysWithin, PassesAtoms, PassesBits};
 ghost use Rattle.hs_cooper.specs.Reading.{form_of, IsCanonical};
 ghost use Rattle.hs_cooper.specs.declared.stop.Refusal.TheVariants as refusal;
 ghost use Rattle.hs_cooper.specs.declared.stop.Stop.TheVariants.{Atoms, Wide};
@@ -28,10 +29,18 @@ use crate::third::third_stage;
 use hs_pure::{Pure, Var};
 use std::alloc::Global;
 
+/// A formula after the second stage, where x stands for its multiple by a number.
+#[derive(Debug, Drop)]
+pub(crate) struct Scaling {
+    pub by: u128,
+    pub formula: Nnf,
+}
+
 // The second stage for `x`, evaluated.
-fn second_stage(alloc: Global, f: &Nnf, x: Var) -> Result<Nnf, Refusal>
-    ensures form { IfOk result (λ r. form_of r ≡ evaluate (stage2 x (form_of f.now))) }
-    ensures canonical { IfOk result IsCanonical }
+fn second_stage(alloc: Global, f: &Nnf, x: Var) -> Result<Scaling, Refusal>
+    ensures by { IfOk result (λ r. r.by ≡ multiplier (place x) (form_of f.now) 1) }
+    ensures fits { IfOk result (λ r. r.by < 2 ^ 127) }
+    ensures form { IfOk result (λ r. form_of r.formula ≡ evaluate (stage2 x (form_of f.now))) }
     ensures wide { IsErrOf result refusal.Wide → IsWide (stage2 x (form_of f.now)) }
 {
     let Some(by) = multiplier(f, x, 1) else {
@@ -44,7 +53,32 @@ fn second_stage(alloc: Global, f: &Nnf, x: Var) -> Result<Nnf, Refusal>
         sum: single(alloc, x, Sign::Plus)?,
     };
     members.add(evaluated(own))?;
-    Ok(members.finish())
+    Ok(Scaling {
+        by,
+        formula: members.finish(),
+    })
+}
+
+// The first two stages for `x`, evaluated.
+pub(crate) fn scaled(alloc: Global, x: Var, f: &Pure, budget: u64) -> Result<Scaling, Stop>
+    requires { budget ≤ 2 ^ 30 }
+    ensures by { IfOk result (λ r. r.by ≡ multiplier (place x) (evaluate (normal_form (assertion_of f.now))) 1) }
+    ensures fits { IfOk result (λ r. r.by < 2 ^ 127) }
+    ensures form { IfOk result (λ r. form_of r.formula ≡ evaluate (scaled_form x (assertion_of f.now))) }
+    ensures some { IfOk result (λ _. 1 ≤ budget) }
+    ensures normal_atoms { IfOk result (λ _. atoms (normal_form (assertion_of f.now)) ≤ budget) }
+    ensures scaled_atoms { IfOk result (λ _. atoms (scaled_form x (assertion_of f.now)) ≤ budget) }
+    ensures atoms { IsErrOf result Atoms → PassesAtoms budget x (assertion_of f.now) }
+    ensures wide { IsErrOf result Wide → PassesBits budget x (assertion_of f.now) }
+{
+    if count_normal(f, budget) > budget {
+        return Err(Stop::Atoms);
+    }
+    let normal = normalize(alloc, true, f)?;
+    if count_atoms(&normal, budget) >= budget {
+        return Err(Stop::Atoms);
+    }
+    Ok(second_stage(alloc, &normal, x)?)
 }
 
 /// A formula without `x` that is true exactly where some integer, as `x`, makes `f` true: the result of plain
@@ -65,14 +99,7 @@ pub fn eliminate(alloc: Global, x: Var, f: &Pure, budget: u64) -> Result<Pure, S
     ensures atoms { IsErrOf result Atoms → PassesAtoms budget x (assertion_of f.now) }
     ensures wide { IsErrOf result Wide → PassesBits budget x (assertion_of f.now) }
 {
-    if count_normal(f, budget) > budget {
-        return Err(Stop::Atoms);
-    }
-    let normal = normalize(alloc, true, f)?;
-    if count_atoms(&normal, budget) >= budget {
-        return Err(Stop::Atoms);
-    }
-    let scaled = second_stage(alloc, &normal, x)?;
-    let cases = third_stage(alloc, &scaled, x, budget)?;
+    let scaled = scaled(alloc, x, f, budget)?;
+    let cases = third_stage(alloc, &scaled.formula, x, budget)?;
     Ok(to_pure(alloc, &cases)?)
 }

@@ -2,7 +2,8 @@
 //!
 //! The results are those of plain elimination over unbounded integers, whose stages and laws stand in
 //! `hs_elimination`. Where a stage has more atoms than are allowed, or a number past 128 bits, the elimination
-//! stops and says so.
+//! stops and says so. `witness` goes through the cases of the third stage at given values of the other
+//! variables, and gives a value of the variable exactly where there is one.
 #![tactic(auto)]
 
 mod back;
@@ -12,14 +13,18 @@ mod change;
 mod elimination;
 mod gather;
 mod lcm;
+mod limit;
 mod linear;
 mod nnf;
 mod normal;
 mod period;
+mod search;
 mod sign;
 mod stop;
 mod survey;
 mod third;
+mod value;
 
 pub use elimination::eliminate;
+pub use search::witness;
 pub use stop::Stop;

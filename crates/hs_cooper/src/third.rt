@@ -4,7 +4,7 @@ ghost use Rattle.std.specs.Prelude.{◌≡◌, ◌+◌, ◌*◌, ◌≤◌, ◌<
 ghost use Rattle.hs_elimination.specs.Linear.{place};
 ghost use Rattle.hs_elimination.specs.Form.{atoms, IsWide};
 ghost use Rattle.hs_elimination.specs.Normal.{evaluate};
-ghost use Rattle.hs_elimination.specs.Cases.{stage3};
+ghost use Rattle.hs_elimination.specs.Cases.{distinct_bounds, period, stage3};
 ghost use Rattle.hs_elimination.specs.Elimination.{HasWideSum};
 ghost use Rattle.hs_cooper.specs.Reading.{form_of, IsCanonical};
 ghost use Rattle.hs_cooper.specs.Changing.{HasUneven};
@@ -18,7 +18,7 @@ use crate::linear::negate_all;
 use crate::nnf::Nnf;
 use crate::period::period;
 use crate::survey::{count_atoms, count_low};
-use hs_pure::Var;
+use hs_pure::{Lin, Var};
 use sqlite_items::Items;
 use std::alloc::Global;
 
@@ -40,18 +40,25 @@ fn exceeds(period: u64, low: u64, atoms: u64, bounds: u64, budget: u64) -> bool
     }
 }
 
-// The third stage for `x`, evaluated.
-pub(crate) fn third_stage(alloc: Global, f: &Nnf, x: Var, budget: u64) -> Result<Nnf, Stop>
+/// What the cases of the third stage are of: the distinct lower bounds, and the numbers from 1 to the period.
+#[derive(Debug, Drop)]
+pub(crate) struct Cases {
+    pub bounds: Items<Lin>,
+    pub period: u64,
+}
+
+// The bounds and the period of the third stage for `x`, if it has no more atoms than `budget`.
+pub(crate) fn count_cases(alloc: Global, f: &Nnf, x: Var, budget: u64) -> Result<Cases, Stop>
     requires small { budget < 2 ^ 31 }
     requires some { 1 ≤ budget }
     requires within { atoms (form_of f.now) ≤ budget }
     requires positive { HasPositive (form_of f.now) }
-    requires even { ¬ (HasUneven (place x) (form_of f.now)) }
-    ensures form { IfOk result (λ r. form_of r ≡ evaluate (stage3 x (form_of f.now))) }
+    ensures bounds { IfOk result (λ r. r.bounds ≡ distinct_bounds (place x) (form_of f.now)) }
+    ensures period { IfOk result (λ r. r.period ≡ period (place x) (form_of f.now) 1) }
+    ensures small { IfOk result (λ r. r.period ≤ budget) }
     ensures within { IfOk result (λ _. atoms (stage3 x (form_of f.now)) ≤ budget) }
     ensures atoms { IsErrOf result Atoms → budget < atoms (stage3 x (form_of f.now)) }
-    ensures wide { IsErrOf result Wide
-        → ((atoms (stage3 x (form_of f.now)) ≤ budget) × (IsWide (stage3 x (form_of f.now)) ⊎ HasWideSum (place x) (form_of f.now))) }
+    ensures wide { IsErrOf result Wide → ((atoms (stage3 x (form_of f.now)) ≤ budget) × HasWideSum (place x) (form_of f.now)) }
 {
     let Some(period) = period(f, x, 1, budget) else {
         return Err(Stop::Atoms);
@@ -70,5 +77,22 @@ pub(crate) fn third_stage(alloc: Global, f: &Nnf, x: Var, budget: u64) -> Result
         return Err(Stop::Atoms);
     }
     let bounds = negate_all(alloc, denied.as_slice())?;
-    Ok(all_cases(alloc, f, x, bounds.as_slice(), period)?)
+    Ok(Cases { bounds, period })
+}
+
+// The third stage for `x`, evaluated.
+pub(crate) fn third_stage(alloc: Global, f: &Nnf, x: Var, budget: u64) -> Result<Nnf, Stop>
+    requires small { budget < 2 ^ 31 }
+    requires some { 1 ≤ budget }
+    requires within { atoms (form_of f.now) ≤ budget }
+    requires positive { HasPositive (form_of f.now) }
+    requires even { ¬ (HasUneven (place x) (form_of f.now)) }
+    ensures form { IfOk result (λ r. form_of r ≡ evaluate (stage3 x (form_of f.now))) }
+    ensures within { IfOk result (λ _. atoms (stage3 x (form_of f.now)) ≤ budget) }
+    ensures atoms { IsErrOf result Atoms → budget < atoms (stage3 x (form_of f.now)) }
+    ensures wide { IsErrOf result Wide
+        → ((atoms (stage3 x (form_of f.now)) ≤ budget) × (IsWide (stage3 x (form_of f.now)) ⊎ HasWideSum (place x) (form_of f.now))) }
+{
+    let cases = count_cases(alloc, f, x, budget)?;
+    Ok(all_cases(alloc, f, x, cases.bounds.as_slice(), cases.period)?)
 }

@@ -16,3 +16,5 @@ pub mod Variables
 pub mod RisingResult
 pub mod Order
 pub mod Decided
+pub mod Witness
+pub mod Simple

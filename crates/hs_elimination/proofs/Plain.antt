@@ -82,7 +82,7 @@ positive-evaluate (no_multiple d t) h = positive_literal t.terms _ (no_multiple 
 positive-evaluate (conjunction f g) h = positive-both_of _ _ (positive-evaluate f h.0) (positive-evaluate g h.1)
 positive-evaluate (disjunction f g) h = positive-either_of _ _ (positive-evaluate f h.0) (positive-evaluate g h.1)
 
-positive-minus_infinity : (x : ℕ) (f : Form) → HasPositiveDivisors f → HasPositiveDivisors (minus_infinity x f)
+pub positive-minus_infinity : (x : ℕ) (f : Form) → HasPositiveDivisors f → HasPositiveDivisors (minus_infinity x f)
 positive-minus_infinity x (const b) h = tt
 positive-minus_infinity x (positive t) h = by_sign (coefficient x t.terms)
   where
@@ -95,7 +95,7 @@ positive-minus_infinity x (no_multiple d t) h = h
 positive-minus_infinity x (conjunction f g) h = (positive-minus_infinity x f h.0, positive-minus_infinity x g h.1)
 positive-minus_infinity x (disjunction f g) h = (positive-minus_infinity x f h.0, positive-minus_infinity x g h.1)
 
-positive-substitute : (x : ℕ) (u : Lin) (f : Form) → HasPositiveDivisors f → HasPositiveDivisors (substitute x u f)
+pub positive-substitute : (x : ℕ) (u : Lin) (f : Form) → HasPositiveDivisors f → HasPositiveDivisors (substitute x u f)
 positive-substitute x u (const b) h = tt
 positive-substitute x u (positive t) h = tt
 positive-substitute x u (multiple d t) h = h
@@ -117,7 +117,7 @@ positive-cases (suc m) bs x f h =
     positive-append (cases_to x f bs m) (cases_at x f bs (suc m)) (positive-cases m bs x f h)
     (positive-substitute x (number (pos (suc m))) (minus_infinity x f) (positive-minus_infinity x f h), positive-map x f (suc m) bs h)
 
-positive-cooper : (m : ℕ) (bs : List Lin) (x : ℕ) (f : Form) → HasPositiveDivisors f → HasPositiveDivisors (cooper m bs x f)
+pub positive-cooper : (m : ℕ) (bs : List Lin) (x : ℕ) (f : Form) → HasPositiveDivisors f → HasPositiveDivisors (cooper m bs x f)
 positive-cooper m bs x f h = each-some_of HasPositiveDivisors (λ f g p q. (p, q)) (λ f g p. p) (cases_to x f bs m) (positive-cases m bs x f h)
 
 -- ---- the theorem

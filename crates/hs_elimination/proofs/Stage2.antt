@@ -140,3 +140,10 @@ stage2 l x f s h m = (
       let e : w.0 ≡ pos l *ℤ q = one_is w.0 ∙ sym (value-single s x (pos 1) w.0) ∙ w.1.1.1 ∙ times_comm q (pos l) in
       (q, (holds-scale s x l q f h m).0 (subst (λ z. Holds (assign s (place x) z) (scale l x f)) e w.1.0)),
 )
+
+-- a value for the scaled formula is a multiple of l, and the quotient is one for f
+pub stage2-back : (l : ℕ) (x : Var) (f : Form) (s : Assignment) → 0 < l → IsCommonMultiple l (place x) f → (y : ℤ) → Holds (assign s (place x) y) (scaled l x f) → (q : ℤ) × (y ≡ pos l *ℤ q) × Holds (assign s (place x) q) f
+stage2-back l x f s h m y w =
+    let q = w.1.0 in
+    let e : y ≡ pos l *ℤ q = one_is y ∙ sym (value-single s x (pos 1) y) ∙ w.1.1 ∙ times_comm q (pos l) in
+    (q, e, (holds-scale s x l q f h m).0 (subst (λ z. Holds (assign s (place x) z) (scale l x f)) e w.0))

@@ -31,22 +31,22 @@ holds-substitute s x u (disjunction f g) r =
     (λ p. elim p [ inl a ↦ inl (l.0 a) | inr b ↦ inr (k.0 b) ], λ p. elim p [ inl a ↦ inl (l.1 a) | inr b ↦ inr (k.1 b) ])
 
 -- ---- the formula in x single
-literal_positive : ℤ → ℤ → U.Form
+unfoldable pub literal_positive : ℤ → ℤ → U.Form
 literal_positive (pos zero) r = U.const (pos 0 <ℤ r)
 literal_positive (pos (suc n)) r = U.above (neg_ℤ r)
 literal_positive (negsuc n) r = U.below r
 
-literal_multiple : ℕ → ℤ → ℤ → U.Form
+unfoldable pub literal_multiple : ℕ → ℤ → ℤ → U.Form
 literal_multiple d (pos zero) r = U.const (Divides d r)
 literal_multiple d (pos (suc n)) r = U.multiple d r
 literal_multiple d (negsuc n) r = U.multiple d (neg_ℤ r)
 
-literal_no_multiple : ℕ → ℤ → ℤ → U.Form
+unfoldable pub literal_no_multiple : ℕ → ℤ → ℤ → U.Form
 literal_no_multiple d (pos zero) r = U.const (¬ (Divides d r))
 literal_no_multiple d (pos (suc n)) r = U.no_multiple d r
 literal_no_multiple d (negsuc n) r = U.no_multiple d (neg_ℤ r)
 
-pub univariate : Assignment → ℕ → Form → U.Form
+unfoldable pub univariate : Assignment → ℕ → Form → U.Form
 univariate s x (const b) = U.const (IsTrue b)
 univariate s x (positive t) = literal_positive (coefficient x t.terms) (value s (rest x t))
 univariate s x (multiple d t) = literal_multiple d (coefficient x t.terms) (value s (rest x t))
@@ -144,7 +144,7 @@ divide_literal_no_multiple m d (pos zero) r h = tt
 divide_literal_no_multiple m d (pos (suc n)) r h = h
 divide_literal_no_multiple m d (negsuc n) r h = h
 
-divisors : (m : ℕ) (s : Assignment) (x : ℕ) (f : Form) → IsScaled m x f → U.DivisorsDivide m (univariate s x f)
+pub divisors : (m : ℕ) (s : Assignment) (x : ℕ) (f : Form) → IsScaled m x f → U.DivisorsDivide m (univariate s x f)
 unfolding univariate
 divisors m s x (const b) u = tt
 divisors m s x (positive t) u = divide_literal_positive m (coefficient x t.terms) (value s (rest x t))
@@ -217,7 +217,7 @@ any_of-append s (f ∷ fs) gs = step (any_of-append s fs gs)
       λ p. elim p [ inl a ↦ elim a [ inl l ↦ inl l | inr r ↦ inr (ih.1 (inl r)) ] | inr b ↦ inr (ih.1 (inr b)) ],
     )
 
-any_of-map_in : (s : Assignment) (g : Lin → Form) (ts : List Lin) → Holds s (any_of (map g ts)) → (t : Lin) × Contains ts t × Holds s (g t)
+pub any_of-map_in : (s : Assignment) (g : Lin → Form) (ts : List Lin) → Holds s (any_of (map g ts)) → (t : Lin) × Contains ts t × Holds s (g t)
 any_of-map_in s g [] p = not_false p
 any_of-map_in s g (t ∷ ts) (inl p) = (t, contains_head t ts, p)
 any_of-map_in s g (t ∷ ts) (inr p) = let w = any_of-map_in s g ts p in (w.0, contains_tail t w.0 ts w.1, w.2)
@@ -228,10 +228,10 @@ any_of-map_out s g (u ∷ ts) t h p =
     let rest_of = any_of-map_out s g ts t in
     elim (contains_cases u t ts h) [ inl e ↦ inl (subst (λ (v : Lin). Holds s (g v)) (sym e) p) | inr k ↦ inr (rest_of k p) ]
 
-abbrev Some_instance : Assignment → ℕ → Form → List Lin → ℕ → Type 0
+abbrev pub Some_instance : Assignment → ℕ → Form → List Lin → ℕ → Type 0
 Some_instance s x f bs m = (j : ℕ) × (1 ≤ j) × (j ≤ m) × Holds s (any_of (cases_at x f bs j))
 
-instances_in : (s : Assignment) (x : ℕ) (f : Form) (bs : List Lin) (m : ℕ) → Holds s (any_of (cases_to x f bs m)) → Some_instance s x f bs m
+pub instances_in : (s : Assignment) (x : ℕ) (f : Form) (bs : List Lin) (m : ℕ) → Holds s (any_of (cases_to x f bs m)) → Some_instance s x f bs m
 instances_in s x f bs zero p = not_false p
 instances_in s x f bs (suc m) p = step (instances_in s x f bs m)
   where
@@ -324,10 +324,10 @@ rising-minus_infinity x (no_multiple d t) r = r
 rising-minus_infinity x (conjunction f g) r = (rising-minus_infinity x f r.0, rising-minus_infinity x g r.1)
 rising-minus_infinity x (disjunction f g) r = (rising-minus_infinity x f r.0, rising-minus_infinity x g r.1)
 
-low_is : (m : ℕ) (s : Assignment) (x : ℕ) (f : Form) (j : ℕ) → IsScaled m x f → Holds s (substitute x (number (pos j)) (minus_infinity x f)) ↔ U.Holds (pos j) (U.minus_infinity (univariate s x f))
+pub low_is : (m : ℕ) (s : Assignment) (x : ℕ) (f : Form) (j : ℕ) → IsScaled m x f → Holds s (substitute x (number (pos j)) (minus_infinity x f)) ↔ U.Holds (pos j) (U.minus_infinity (univariate s x f))
 low_is m s x f j u = iff-trans (holds-substitute s x (number (pos j)) (minus_infinity x f) (rising-minus_infinity x f (rising-scaled m x f u))) (iff-trans (same (λ z. Holds (assign s x z) (minus_infinity x f)) _ _ (value-number s (pos j))) (holds-minus_infinity m s x (pos j) f u))
 
-near_is : (m : ℕ) (s : Assignment) (x : ℕ) (f : Form) (t : Lin) (j : ℕ) → IsScaled m x f → Holds s (substitute x (plus t (number (pos j))) f) ↔ U.Holds (value s t +ℤ pos j) (univariate s x f)
+pub near_is : (m : ℕ) (s : Assignment) (x : ℕ) (f : Form) (t : Lin) (j : ℕ) → IsScaled m x f → Holds s (substitute x (plus t (number (pos j))) f) ↔ U.Holds (value s t +ℤ pos j) (univariate s x f)
 near_is m s x f t j u = iff-trans (holds-substitute s x (plus t (number (pos j))) f (rising-scaled m x f u)) (iff-trans (same (λ z. Holds (assign s x z) f) _ _ (value-shifted s t (pos j))) (holds-univariate m s x (value s t +ℤ pos j) f u))
 
 pub stage3 : (m : ℕ) (bs : List Lin) (x : ℕ) (f : Form) (s : Assignment) → 0 < m → IsScaled m x f → ((t : Lin) → Contains (lower_bounds x f) t → Contains bs t) → ((y : ℤ) × Holds (assign s x y) f) ↔ Holds s (cooper m bs x f)

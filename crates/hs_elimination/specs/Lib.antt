@@ -7,4 +7,5 @@ pub mod Cases
 pub mod Elimination
 pub mod Ordered
 pub mod Decided
+pub mod Witness
 pub mod Laws

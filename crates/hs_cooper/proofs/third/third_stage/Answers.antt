@@ -1,63 +1,24 @@
-use Rattle.std.proofs.Common.{rules, arith, subst, ap, ◌∙◌, ◌≡◌, ◌<◌, ◌≤◌, [], inl, inr, map, negsuc, Err}
-use Rattle.std.specs.List.{Contains}
-use Rattle.hs_elimination.specs.Linear.{place, times, IsWideLin}
-use Rattle.hs_elimination.specs.Cases.{join_distinct, distinct_bounds, cooper}
+use Rattle.std.proofs.Common.{rules, ap, ◌∙◌, inr, Err}
+use Rattle.hs_elimination.specs.Linear.{place}
+use Rattle.hs_elimination.specs.Cases.{distinct_bounds, cooper}
 use Rattle.hs_elimination.specs.Normal.{evaluate}
-use Rattle.hs_pure.specs.declared.lin.Lin.{Lin}
 use Rattle.hs_cooper.specs.Reading.{form_of}
-use Rattle.hs_cooper.specs.Bounding.{denied_bounds}
-use Rattle.hs_cooper.proofs.Thirds.{long_period, bounds_over, total_is, not_above, wide-bound, wide-cases, bounds-are, stage3-joined, wide_given, refused_to}
+use Rattle.hs_cooper.proofs.Thirds.{wide-cases, stage3-joined, wide_given, refused_to}
 use Rattle.hs_cooper.proofs.third.third_stage.Goals as goal
-use Rattle.hs_cooper.proofs.third.third_stage.Goals.{then-atoms-eq0, else-atoms-eq0}
 
-pub returns-in_default-clause-atoms : goal.returns-in_default-clause-atoms
-returns-in_default-clause-atoms c = λ _. long_period c.args.x (form_of c.args.f.now) c.args.budget c.requires.some (c.period.ensures.over c.in_default.is c.requires.positive)
-
-pub returns-in_err-join_bounds-clause-atoms : goal.returns-in_err-join_bounds-clause-atoms
-returns-in_err-join_bounds-clause-atoms c = λ h.
-    bounds_over c.args.x (form_of c.args.f.now) c.args.budget c.if-atoms-eq0.limit c.count_atoms-atoms.result c.count_atoms-atoms.ensures c.requires.within
-    (omega (arith, c.in-Some.ensures.value.value, c.in-Some.ensures.value.positive))
-    (elim c.if-atoms-eq0.branch [ then-atoms-eq0 w ↦ inl (search rules) | else-atoms-eq0 w ↦ inr (omega arith, search rules) ])
-    (rw c.new-denied.ensures at (c.in_err-join_bounds.ensures.over (search rules)))
-
-pub returns-then-exceeds-clause-atoms : goal.returns-then-exceeds-clause-atoms
-returns-then-exceeds-clause-atoms c = λ _.
-    subst (λ n. c.args.budget < n) (total_is c.args.x (form_of c.args.f.now) c.args.budget c.in-Some.period c.count_low.result c.count_atoms-atoms.result c.len.result c.join_bounds.new.done
-    c.in-Some.ensures.value.value c.count_low.ensures c.count_atoms-atoms.ensures c.len.ensures (rw c.new-denied.ensures at c.in_ok-join_bounds.ensures.list) c.requires.within)
-    (c.exceeds.ensures.0 c.if-exceeds.true)
-
-pub returns-in_err-bounds-clause-wide : goal.returns-in_err-bounds-clause-wide
-returns-in_err-bounds-clause-wide c = λ h.
-    let list : c.join_bounds.new.done ≡ join_distinct [] (denied_bounds (place c.args.x) (form_of c.args.f.now)) = rw c.new-denied.ensures at c.in_ok-join_bounds.ensures.list in (
-      subst (λ n. n ≤ c.args.budget) (total_is c.args.x (form_of c.args.f.now) c.args.budget c.in-Some.period c.count_low.result c.count_atoms-atoms.result c.len.result c.join_bounds.new.done
-          c.in-Some.ensures.value.value c.count_low.ensures c.count_atoms-atoms.ensures c.len.ensures (rw c.new-denied.ensures at c.in_ok-join_bounds.ensures.list) c.requires.within)
-          (not_above c.exceeds.result c.args.budget _ c.exceeds.ensures c.if-exceeds.false),
-      inr (wide-bound (place c.args.x) (form_of c.args.f.now) (subst (λ l. (a : Lin) × (Contains l a × IsWideLin (times (negsuc 0) a))) (c.as_slice.ensures ∙ list)
-          (c.in_err-bounds.ensures.wide (ap Err (wide_given c.from_residual-in_err-bounds.result c.in_err-bounds.field-0.0 c.from_residual-in_err-bounds.ensures.1 h))))),
-    )
+pub returns-in_err-cases-clause-wide : goal.returns-in_err-cases-clause-wide
+returns-in_err-cases-clause-wide c = λ h. let w = c.in_err-cases.ensures.wide (search rules) in (w.0, inr w.1)
 
 pub returns-in_err-all_cases-clause-wide : goal.returns-in_err-all_cases-clause-wide
-returns-in_err-all_cases-clause-wide c = λ h.
-    let list : c.join_bounds.new.done ≡ join_distinct [] (denied_bounds (place c.args.x) (form_of c.args.f.now)) = rw c.new-denied.ensures at c.in_ok-join_bounds.ensures.list in (
-      subst (λ n. n ≤ c.args.budget) (total_is c.args.x (form_of c.args.f.now) c.args.budget c.in-Some.period c.count_low.result c.count_atoms-atoms.result c.len.result c.join_bounds.new.done
-          c.in-Some.ensures.value.value c.count_low.ensures c.count_atoms-atoms.ensures c.len.ensures (rw c.new-denied.ensures at c.in_ok-join_bounds.ensures.list) c.requires.within)
-          (not_above c.exceeds.result c.args.budget _ c.exceeds.ensures c.if-exceeds.false),
-      wide-cases c.args.x (form_of c.args.f.now) c.requires.even (refused_to c.args.x (form_of c.args.f.now) c.as_slice-2.result.now c.in-Some.period
-          (c.as_slice-2.ensures ∙ c.in_ok-bounds.ensures.sums ∙ ap (map (times (negsuc 0))) (c.as_slice.ensures ∙ list) ∙ bounds-are (place c.args.x) (form_of c.args.f.now)) c.in-Some.ensures.value.value
-          (c.in_err-all_cases.ensures.wide (ap Err (wide_given c.from_residual-in_err-all_cases.result c.in_err-all_cases.field-0.0 c.from_residual-in_err-all_cases.ensures.1 h)))),
-    )
+returns-in_err-all_cases-clause-wide c = λ h. (
+  c.in_ok-cases.ensures.within,
+  wide-cases c.args.x (form_of c.args.f.now) c.requires.even (refused_to c.args.x (form_of c.args.f.now) c.as_slice.result.now c.in_ok-cases.cases.period
+      (c.as_slice.ensures ∙ c.in_ok-cases.ensures.bounds) c.in_ok-cases.ensures.period
+      (c.in_err-all_cases.ensures.wide (ap Err (wide_given c.from_residual-in_err-all_cases.result c.in_err-all_cases.field-0.0 c.from_residual-in_err-all_cases.ensures.1 h)))),
+)
 
 pub returns-clause-form : goal.returns-clause-form
 returns-clause-form c =
-    let list : c.join_bounds.new.done ≡ join_distinct [] (denied_bounds (place c.args.x) (form_of c.args.f.now)) = rw c.new-denied.ensures at c.in_ok-join_bounds.ensures.list in
-    let bounds : c.as_slice-2.result.now ≡ distinct_bounds (place c.args.x) (form_of c.args.f.now)
-    = c.as_slice-2.ensures ∙ c.in_ok-bounds.ensures.sums ∙ ap (map (times (negsuc 0))) (c.as_slice.ensures ∙ list) ∙ bounds-are (place c.args.x) (form_of c.args.f.now) in
-    c.in_ok-all_cases.ensures.form ∙ stage3-joined (place c.args.x) (form_of c.args.f.now) c.as_slice-2.result.now c.in-Some.period
-    ∙ ap (λ l. evaluate (cooper c.in-Some.period l (place c.args.x) (form_of c.args.f.now))) bounds
-    ∙ ap (λ m. evaluate (cooper m (distinct_bounds (place c.args.x) (form_of c.args.f.now)) (place c.args.x) (form_of c.args.f.now))) c.in-Some.ensures.value.value
-
-pub returns-clause-within : goal.returns-clause-within
-returns-clause-within c =
-    subst (λ n. n ≤ c.args.budget) (total_is c.args.x (form_of c.args.f.now) c.args.budget c.in-Some.period c.count_low.result c.count_atoms-atoms.result c.len.result c.join_bounds.new.done
-    c.in-Some.ensures.value.value c.count_low.ensures c.count_atoms-atoms.ensures c.len.ensures (rw c.new-denied.ensures at c.in_ok-join_bounds.ensures.list) c.requires.within)
-    (not_above c.exceeds.result c.args.budget _ c.exceeds.ensures c.if-exceeds.false)
+    c.in_ok-all_cases.ensures.form ∙ stage3-joined (place c.args.x) (form_of c.args.f.now) c.as_slice.result.now c.in_ok-cases.cases.period
+    ∙ ap (λ l. evaluate (cooper c.in_ok-cases.cases.period l (place c.args.x) (form_of c.args.f.now))) (c.as_slice.ensures ∙ c.in_ok-cases.ensures.bounds)
+    ∙ ap (λ m. evaluate (cooper m (distinct_bounds (place c.args.x) (form_of c.args.f.now)) (place c.args.x) (form_of c.args.f.now))) c.in_ok-cases.ensures.period

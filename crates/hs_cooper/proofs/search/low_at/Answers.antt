@@ -1,0 +1,8 @@
+use Rattle.std.proofs.Common.{rules}
+use Rattle.hs_pure.specs.Eval.{stack_of}
+use Rattle.hs_cooper.specs.Reading.{form_of}
+use Rattle.hs_cooper.proofs.Searches.{refused_low}
+use Rattle.hs_cooper.proofs.search.low_at.Goals as goal
+
+pub returns-in_err-is_true-clause-wide : goal.returns-in_err-is_true-clause-wide
+returns-in_err-is_true-clause-wide c = λ h. refused_low (stack_of c.args.v.now) c.args.x (form_of c.args.f.now) c.args.period c.args.j (form_of c.in_ok-case.case) c.requires.some c.requires.within c.in_ok-case.ensures.form (c.in_err-is_true.ensures.wide (search rules))
