@@ -1,0 +1,11 @@
+pub mod Levels
+pub mod ExprSound
+pub mod ItemSound
+pub mod FormulaSound
+pub mod Found
+pub mod Ends
+pub mod Less
+pub mod ExprFull
+pub mod ItemFull
+pub mod FormulaFull
+pub mod Unique

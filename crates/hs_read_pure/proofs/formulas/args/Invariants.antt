@@ -1,0 +1,8 @@
+use Rattle.std.proofs.Common.{◌≡◌, ◌-◌}
+use Rattle.hs_lex.specs.declared.token.Sign.TheVariants.{Comma}
+use Rattle.hs_words.specs.Input.{repeat, skip, ◌>>◌, sees}
+use Rattle.hs_read_pure.specs.Formula.{arg, args}
+use Rattle.hs_read_pure.proofs.formulas.args.Given as goal
+
+abbrev pub invariant-loop-turn : goal.invariant-loop-turn
+invariant-loop-turn l = args l.depth l.fn.tokens ≡ repeat (sees Comma) (skip >> arg l.depth) (l._turn-end - l._turn) l.found l.tokens

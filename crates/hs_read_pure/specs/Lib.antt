@@ -1,0 +1,5 @@
+pub mod Expr
+pub mod Item
+pub mod Formula
+pub mod Grammar
+pub mod Laws

@@ -1,0 +1,5 @@
+pub mod Spans
+pub mod Turns
+pub mod Yields
+pub mod Whole
+pub mod Full

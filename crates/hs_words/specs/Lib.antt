@@ -1,0 +1,4 @@
+pub mod Word
+pub mod Input
+pub mod View
+pub mod Grammar
