@@ -1,0 +1,10 @@
+pub mod Levels
+pub mod TestSound
+pub mod StatementSound
+pub mod DeclareSound
+pub mod Found
+pub mod Less
+pub mod TestFull
+pub mod StatementFull
+pub mod DeclareFull
+pub mod Unique

@@ -1,0 +1,13 @@
+use Rattle.std.proofs.Common.{rules, arith}
+use Rattle.std.proofs.lemmas.Grind.{common_steps}
+use Rattle.hs_lex.specs.declared.token.Sign.TheVariants.{Comma}
+use Rattle.hs_words.specs.Input.{repeat, skip, ◌>>◌, sees}
+use Rattle.hs_read_pure.specs.Expr.{expr}
+use Rattle.hs_words.proofs.Turns.{one_more}
+use Rattle.hs_read.proofs.statements.exprs.Goals as goal
+
+pub loop-turn-preserved : goal.loop-turn-preserved
+unfolding repeat
+loop-turn-preserved c =
+    let e = one_more (λ n. repeat (sees Comma) (skip >> expr c.args.depth) n c.loop-turn.found c.loop-turn.tokens) _ c.loop-turn._turn c.loop-turn-test.true c.loop-turn.invariant in
+    first_of (search rules, grind (arith, common_steps))

@@ -1,0 +1,5 @@
+pub mod Test
+pub mod Statement
+pub mod Declare
+pub mod Grammar
+pub mod Laws

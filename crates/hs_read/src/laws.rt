@@ -1,0 +1,13 @@
+//! What holds of all tokens. The functions do nothing: each contract states a law.
+
+ghost use Rattle.hs_read.specs.Laws.{SourcesAreRead, SourcesAreUnique};
+
+/// A source that the grammar has within the nesting is read: nothing of it is refused.
+pub fn sources_are_read()
+    ensures { SourcesAreRead }
+{}
+
+/// Tokens spell at most one source.
+pub fn sources_are_unique()
+    ensures { SourcesAreUnique }
+{}
