@@ -18,7 +18,7 @@ use Rattle.hs_cooper.specs.declared.nnf.Nnf.{Nnf}
 use Rattle.hs_cooper.specs.declared.nnf.Nnf.TheVariants as nnf_of
 use Rattle.hs_cooper.specs.declared.change.Change.{Change}
 use Rattle.hs_cooper.specs.declared.change.Change.TheVariants.{Scale, Substitute, Low}
-use Rattle.hs_cooper.specs.Reading.{listed, unit, join, joined, form_of}
+use Rattle.hs_cooper.specs.Reading.{listed, join, joined, form_of}
 use Rattle.hs_cooper.specs.Changing.{changed, HasUneven, IsUneven, IsRefused}
 use Rattle.hs_cooper.proofs.Forms.{form-Joined, fold-push}
 
@@ -137,8 +137,11 @@ refused-Joined ch f c fs is w =
     ])
 
 -- one more member, joined
-pub joined_more : {X : Type 0} (c : Connective) (h : X → Form) (xs : List X) (i : ℕ) (d : X) → i < length xs → join c (joined c (map h (take i xs))) (h (get_or xs i d)) ≡ joined c (map h (take (i + 1) xs))
-joined_more c h xs i d p = sym (ap (joined c) (map_more h xs i d p) ∙ fold-push (join c) (const (unit c)) (map h (take i xs)) (h (get_or xs i d)))
+pub fold_next : {X : Type 0} (c d : Connective) (z : Form) (h : X → Form) (xs : List X) (i : ℕ) (x : X) (old new one : Form) → i < length xs → x ≡ get_or xs i x → old ≡ fold (join c) z (map h (take i xs)) → d ≡ c
+    → new ≡ join d old one → one ≡ h x → new ≡ fold (join c) z (map h (take (i + 1) xs))
+fold_next c d z h xs i x old new one p is old_is d_is new_is one_is =
+    new_is ∙ (λ k. join (d_is k) (old_is k) ((one_is ∙ ap h is) k))
+    ∙ sym (ap (fold (join c) z) (map_more h xs i x p) ∙ fold-push (join c) z (map h (take i xs)) (h (get_or xs i x)))
 
 pub ok_map : {T E : Type 0} {P Q : T → Type 0} (r : Result T E) → ((x : T) → P x → Q x) → IfOk r P → IfOk r Q
 ok_map (Ok x) f h = f x h

@@ -7,4 +7,6 @@ pub mod Joining
 pub mod Backs
 pub mod Thirds
 pub mod Whole
+pub mod Members
+pub mod Narrow
 pub mod Searches

@@ -64,6 +64,22 @@ module _ (k : ℤ) (a b done all : List Entry) (i j : ℕ) (d e : Entry)
         = rw (drop_more a i d p, drop_more b j e q) (merge-lt (scale_term k (get_or a i d)) (get_or b j e) (map (scale_term k) (drop (i + 1) a)) (drop (j + 1) b) h) in
         subst HasWideTerm sum_is (wide_after done _ (subst HasWideTerm (sym step) (inl not_fit)))
 
+    first_step : place (get_or a i d).0 < place (get_or b j e).0
+        → merge (map (scale_term k) (drop i a)) (drop j b) ≡ scale_term k (get_or a i d) ∷ merge (map (scale_term k) (drop (i + 1) a)) (drop j b)
+    first_step h = rw (drop_more a i d p, drop_more b j e q) (merge-lt (scale_term k (get_or a i d)) (get_or b j e) (map (scale_term k) (drop (i + 1) a)) (drop (j + 1) b) h)
+
+    pub sum_first : (c : ℤ) (now : List Entry) → place (get_or a i d).0 < place (get_or b j e).0 → SFits w128 (get_or a i d).1
+        → SFits w128 (k *ℤ to_z w128 (of_z w128 (get_or a i d).1)) → c ≡ k *ℤ to_z w128 (of_z w128 (get_or a i d).1)
+        → now ≡ done ++ ((get_or a i d).0, to_z w128 (of_z w128 c)) ∷ []
+        → now ++ merge (map (scale_term k) (drop (i + 1) a)) (drop j b) ≡ all
+    sum_first c now h fa fs is now_is =
+        let x = get_or a i d in
+        let later = merge (map (scale_term k) (drop (i + 1) a)) (drop j b) in
+        let fits : SFits w128 c = subst (SFits w128) (sym is) fs in
+        let exact : c ≡ k *ℤ x.1 = simp to_z-of_z at is in
+        let kept : to_z w128 (of_z w128 c) ≡ k *ℤ x.1 = to_z-of_z w128 c fits ∙ exact in
+        rw now_is (append_assoc done ((x.0, to_z w128 (of_z w128 c)) ∷ []) later ∙ ap (λ (zs : List Entry). done ++ zs) (ap (λ (z : ℤ). (x.0, z) ∷ later) kept ∙ sym (first_step h)) ∙ sum_is)
+
     both_step : place (get_or a i d).0 ≤ place (get_or b j e).0 → place (get_or b j e).0 ≤ place (get_or a i d).0
         → merge (map (scale_term k) (drop i a)) (drop j b) ≡ prepend (get_or a i d).0 (k *ℤ (get_or a i d).1 +ℤ (get_or b j e).1) (merge (map (scale_term k) (drop (i + 1) a)) (drop (j + 1) b))
     both_step l m = rw (drop_more a i d p, drop_more b j e q) (merge-eq (scale_term k (get_or a i d)) (get_or b j e) (map (scale_term k) (drop (i + 1) a)) (drop (j + 1) b) l m)

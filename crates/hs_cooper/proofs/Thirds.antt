@@ -237,7 +237,7 @@ wide-cases x f even w =
         | inr uneven ↦ absurd (even uneven)
       ]
       | inr near ↦ elim near.1.1 [
-        | inl wide ↦ inr (near.0, (near.1.0, inr (j, (within, wide))))
+        | inl wide ↦ inr (near.0, (near.1.0, inr (j, (one, within, wide))))
         | inr refused ↦ elim refused [
           | inl wide ↦ inl (wide_whole n f bs j (period n f 1) (substitute n (plus near.0 (number (pos j))) f) one within (contains_tail _ _ _ (contains-map (λ b. substitute n (plus b (number (pos j))) f) bs near.0 near.1.0)) wide)
           | inr uneven ↦ absurd (even uneven)

@@ -1,13 +1,13 @@
 //! The cases of the third stage.
 
-ghost use Rattle.std.specs.Prelude.{◌≡◌, ◌<◌, ◌^◌, map, OnOk, IfOk, IsErrOf};
+ghost use Rattle.std.specs.Prelude.{◌≡◌, ℕ, ◌≤◌, ◌<◌, ◌^◌, map, OnOk, IfOk, IsErrOf};
 ghost use Rattle.std.specs.List.{fold};
 ghost use Rattle.hs_elimination.specs.Linear.{place};
 ghost use Rattle.hs_elimination.specs.Normal.{evaluate};
 ghost use Rattle.hs_elimination.specs.Cases.{cases_at, cases_to};
 ghost use Rattle.hs_cooper.specs.Reading.{form_of, join, joined, IsCanonical};
 ghost use Rattle.hs_cooper.specs.Gathering.{gathered, HasProper};
-ghost use Rattle.hs_cooper.specs.Casing.{IsRefusedAt, IsRefusedTo};
+ghost use Rattle.hs_cooper.specs.Casing.{IsRefusedAt, IsRefusedTo, HasWideAt, HasWideGiven};
 ghost use Rattle.hs_cooper.specs.declared.stop.Refusal.TheVariants.{Wide};
 ghost use Rattle.hs_cooper.specs.declared.nnf.Connective.TheVariants.{Or};
 
@@ -35,6 +35,7 @@ fn add_cases(
         ≡ fold (join Or) (gathered members.old) (map evaluate (cases_at (place x) (form_of f.now) bounds.now j))) }
     ensures proper { OnOk result (HasProper members.new) }
     ensures wide { IsErrOf result Wide → IsRefusedAt x (form_of f.now) bounds.now j }
+    ensures narrow { OnOk result (HasWideAt x (form_of f.now) bounds.now j → HasWideGiven (form_of f.now) bounds.now) }
 {
     let low = apply(alloc, &Change::Low(x, j), f)?;
     members.add(low)?;
@@ -58,6 +59,7 @@ pub(crate) fn all_cases(
     ensures form { IfOk result (λ r. form_of r ≡ joined Or (map evaluate (cases_to (place x) (form_of f.now) bounds.now period))) }
     ensures canonical { IfOk result IsCanonical }
     ensures wide { IsErrOf result Wide → IsRefusedTo x (form_of f.now) bounds.now period }
+    ensures narrow { IfOk result (λ _. (j : ℕ) → 1 ≤ j → j ≤ period → HasWideAt x (form_of f.now) bounds.now j → HasWideGiven (form_of f.now) bounds.now) }
 {
     let mut members = Gathered::new(alloc, Connective::Or);
     for j in 1..period + 1 {

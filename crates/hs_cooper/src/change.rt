@@ -69,6 +69,7 @@ fn scale_sum(alloc: Global, x: Var, unit: Sign, q: u128, a: &Lin) -> Result<Lin,
     requires { q < 2 ^ 127 }
     ensures sum { IfOk result (λ r. r ≡ plus (single x (sign unit)) (times (pos q) (rest (place x) a.now))) }
     ensures wide { IsErrOf result Wide → IsWideLin (plus (single x (sign unit)) (times (pos q) (rest (place x) a.now))) }
+    ensures narrow { IfOk result (λ _. ¬ (IsWideLin (plus (single x (sign unit)) (times (pos q) (rest (place x) a.now))))) }
 {
     let others = rest(alloc, a, x)?;
     let product = times(alloc, q as i128, &others)?;
@@ -80,6 +81,7 @@ fn scale(alloc: Global, x: Var, by: u128, l: &Literal) -> Result<Literal, Refusa
     requires { by < 2 ^ 127 }
     ensures form { IfOk result (λ r. literal_form r ≡ scale by x (literal_form l.now)) }
     ensures wide { IsErrOf result Wide → IsWide (scale by x (literal_form l.now)) }
+    ensures narrow { IfOk result (λ _. IsWide (scale by x (literal_form l.now)) → IsWide (literal_form l.now)) }
 {
     let c = coefficient(&l.sum, x);
     if c == 0 {
@@ -101,6 +103,7 @@ fn scale(alloc: Global, x: Var, by: u128, l: &Literal) -> Result<Literal, Refusa
 fn substitute_sum(alloc: Global, x: Var, u: &Lin, a: &Lin) -> Result<Lin, Refusal>
     ensures sum { IfOk result (λ r. r ≡ substitute_lin (place x) u.now a.now) }
     ensures wide { IsErrOf result Wide → IsWideLin (substitute_lin (place x) u.now a.now) ⊎ (¬ (IsOneOrNone (coefficient (place x) a.now.terms))) }
+    ensures narrow { IfOk result (λ _. IsWideLin (substitute_lin (place x) u.now a.now) → IsWideLin a.now) }
 {
     let others = rest(alloc, a, x)?;
     match coefficient(a, x) {
@@ -114,6 +117,7 @@ fn substitute_sum(alloc: Global, x: Var, u: &Lin, a: &Lin) -> Result<Lin, Refusa
 fn substitute(alloc: Global, x: Var, u: &Lin, l: &Literal) -> Result<Literal, Refusal>
     ensures form { IfOk result (λ r. literal_form r ≡ substitute (place x) u.now (literal_form l.now)) }
     ensures wide { IsErrOf result Wide → IsWide (substitute (place x) u.now (literal_form l.now)) ⊎ HasUneven (place x) (literal_form l.now) }
+    ensures narrow { IfOk result (λ _. IsWide (substitute (place x) u.now (literal_form l.now)) → IsWide (literal_form l.now)) }
 {
     Ok(Literal {
         relation: l.relation,
@@ -140,6 +144,7 @@ fn change_literal(alloc: Global, change: &Change, l: &Literal) -> Result<Nnf, Re
     ensures form { IfOk result (λ r. form_of r ≡ evaluate (changed change.now (literal_form l.now))) }
     ensures canonical { IfOk result IsCanonical }
     ensures wide { IsErrOf result Wide → IsRefused change.now (literal_form l.now) }
+    ensures narrow { IfOk result (λ _. IsWide (changed change.now (literal_form l.now)) → IsWide (literal_form l.now)) }
 {
     match change {
         Change::Scale(x, by) => Ok(evaluated(scale(alloc, *x, *by, l)?)),
@@ -161,6 +166,7 @@ pub(crate) fn apply(alloc: Global, change: &Change, f: &Nnf) -> Result<Nnf, Refu
     ensures form { IfOk result (λ r. form_of r ≡ evaluate (changed change.now (form_of f.now))) }
     ensures canonical { IfOk result IsCanonical }
     ensures wide { IsErrOf result Wide → IsRefused change.now (form_of f.now) }
+    ensures narrow { IfOk result (λ _. IsWide (changed change.now (form_of f.now)) → IsWide (form_of f.now)) }
 {
     match f {
         Nnf::Truth(b) => Ok(Nnf::Truth(*b)),
@@ -180,6 +186,7 @@ fn apply_all(
     ensures form { IfOk result (λ r. form_of r ≡ joined connective (map (λ f. evaluate (changed change.now (form_of f))) fs.now)) }
     ensures canonical { IfOk result IsCanonical }
     ensures wide { IsErrOf result Wide → ((f : Nnf) × (Contains fs.now f × IsRefused change.now (form_of f))) }
+    ensures narrow { IfOk result (λ _. (f : Nnf) → Contains fs.now f → IsWide (changed change.now (form_of f)) → IsWide (form_of f)) }
 {
     let mut members = Gathered::new(alloc, connective);
     for f in fs {

@@ -6,11 +6,11 @@ ghost use Rattle.hs_pure.specs.Stack.{Stack, with_value, number_value};
 ghost use Rattle.hs_pure.specs.Truth.{TrueAt};
 ghost use Rattle.hs_pure.specs.Occurs.{is_free};
 ghost use Rattle.hs_pure.specs.Sums.{IsOrdered};
-ghost use Rattle.hs_elimination.specs.Form.{atoms, IsWide};
+ghost use Rattle.hs_elimination.specs.Form.{IsWide};
 ghost use Rattle.hs_elimination.specs.Linear.{place};
 ghost use Rattle.hs_elimination.specs.Normal.{is_simple, evaluate};
 ghost use Rattle.hs_elimination.specs.Scaling.{multiplier, stage2};
-ghost use Rattle.hs_elimination.specs.Elimination.{normal_form, scaled_form, without_variable, StaysWithin, PassesAtoms, PassesBits};
+ghost use Rattle.hs_elimination.specs.Elimination.{normal_form, scaled_form, without_variable, IsWithin, StaysWithin, PassesAtoms, PassesBits};
 ghost use Rattle.hs_cooper.specs.Reading.{form_of, IsCanonical};
 ghost use Rattle.hs_cooper.specs.declared.stop.Refusal.TheVariants as refusal;
 ghost use Rattle.hs_cooper.specs.declared.stop.Stop.TheVariants.{Atoms, Wide};
@@ -42,6 +42,7 @@ fn second_stage(alloc: Global, f: &Nnf, x: Var) -> Result<Scaling, Refusal>
     ensures fits { IfOk result (λ r. r.by < 2 ^ 127) }
     ensures form { IfOk result (λ r. form_of r.formula ≡ evaluate (stage2 x (form_of f.now))) }
     ensures wide { IsErrOf result refusal.Wide → IsWide (stage2 x (form_of f.now)) }
+    ensures narrow { IfOk result (λ _. IsWide (stage2 x (form_of f.now)) → IsWide (form_of f.now)) }
 {
     let Some(by) = multiplier(f, x, 1) else {
         return Err(Refusal::Wide);
@@ -66,8 +67,8 @@ pub(crate) fn scaled(alloc: Global, x: Var, f: &Pure, budget: u64) -> Result<Sca
     ensures fits { IfOk result (λ r. r.by < 2 ^ 127) }
     ensures form { IfOk result (λ r. form_of r.formula ≡ evaluate (scaled_form x (assertion_of f.now))) }
     ensures some { IfOk result (λ _. 1 ≤ budget) }
-    ensures normal_atoms { IfOk result (λ _. atoms (normal_form (assertion_of f.now)) ≤ budget) }
-    ensures scaled_atoms { IfOk result (λ _. atoms (scaled_form x (assertion_of f.now)) ≤ budget) }
+    ensures first { IfOk result (λ _. IsWithin budget (normal_form (assertion_of f.now))) }
+    ensures second { IfOk result (λ _. IsWithin budget (scaled_form x (assertion_of f.now))) }
     ensures atoms { IsErrOf result Atoms → PassesAtoms budget x (assertion_of f.now) }
     ensures wide { IsErrOf result Wide → PassesBits budget x (assertion_of f.now) }
 {

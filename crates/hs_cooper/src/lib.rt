@@ -2,8 +2,8 @@
 //!
 //! The results are those of plain elimination over unbounded integers, whose stages and laws stand in
 //! `hs_elimination`. Where a stage has more atoms than are allowed, or a number past 128 bits, the elimination
-//! stops and says so. `witness` goes through the cases of the third stage at given values of the other
-//! variables, and gives a value of the variable exactly where there is one.
+//! stops at the first such stage and says so. `witness` goes through the cases of the third stage at given values
+//! of the other variables, and gives the plain value of the variable exactly where some value works.
 #![tactic(auto)]
 
 mod back;

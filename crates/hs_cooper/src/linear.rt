@@ -40,6 +40,7 @@ fn add_terms(
 ) -> Result<Items<(Var, i128)>, Refusal>
     ensures sum { IfOk result (λ ts. ts ≡ merge (map (scale_term (sign by)) a.now) b.now) }
     ensures wide { IsErrOf result Wide → HasWideTerm (merge (map (scale_term (sign by)) a.now) b.now) }
+    ensures narrow { IfOk result (λ _. ¬ (HasWideTerm (merge (map (scale_term (sign by)) a.now) b.now))) }
 {
     let mut terms = Items::new(alloc);
     let mut i = 0;
@@ -74,7 +75,8 @@ fn add_terms(
         i += 1;
     }
     'right: while j < b.len() {
-        terms.push(b[j])?;
+        let (w, d) = b[j];
+        terms.push((w, d))?;
         j += 1;
     }
     Ok(terms)
@@ -84,6 +86,7 @@ fn add_terms(
 pub(crate) fn add(alloc: Global, by: Sign, a: &Lin, b: &Lin) -> Result<Lin, Refusal>
     ensures sum { IfOk result (λ r. r ≡ plus (times (sign by) a.now) b.now) }
     ensures wide { IsErrOf result Wide → IsWideLin (plus (times (sign by) a.now) b.now) }
+    ensures narrow { IfOk result (λ _. ¬ (IsWideLin (plus (times (sign by) a.now) b.now))) }
 {
     let terms = add_terms(alloc, by, a.terms.as_slice(), b.terms.as_slice())?;
     let Some(constant) = by.times_plus(a.constant, b.constant) else {
@@ -111,6 +114,7 @@ fn difference_and_one(a: i128, b: i128) -> Option<i128>
 pub(crate) fn subtract_and_one(alloc: Global, a: &Lin, b: &Lin) -> Result<Lin, Refusal>
     ensures sum { IfOk result (λ r. r ≡ plus (minus b.now a.now) (number (pos 1))) }
     ensures wide { IsErrOf result Wide → IsWideLin (plus (minus b.now a.now) (number (pos 1))) }
+    ensures narrow { IfOk result (λ _. ¬ (IsWideLin (plus (minus b.now a.now) (number (pos 1))))) }
 {
     let terms = add_terms(alloc, Sign::Minus, a.terms.as_slice(), b.terms.as_slice())?;
     let Some(constant) = difference_and_one(a.constant, b.constant) else {
@@ -122,6 +126,7 @@ pub(crate) fn subtract_and_one(alloc: Global, a: &Lin, b: &Lin) -> Result<Lin, R
 fn scale_terms(alloc: Global, k: i128, a: &[(Var, i128)]) -> Result<Items<(Var, i128)>, Refusal>
     ensures product { IfOk result (λ ts. ts ≡ map (scale_term k) a.now) }
     ensures wide { IsErrOf result Wide → HasWideTerm (map (scale_term k) a.now) }
+    ensures narrow { IfOk result (λ _. ¬ (HasWideTerm (map (scale_term k) a.now))) }
 {
     let mut terms = Items::new(alloc);
     for (v, c) in a {
@@ -137,6 +142,7 @@ fn scale_terms(alloc: Global, k: i128, a: &[(Var, i128)]) -> Result<Items<(Var, 
 pub(crate) fn times(alloc: Global, k: i128, a: &Lin) -> Result<Lin, Refusal>
     ensures product { IfOk result (λ r. r ≡ times k a.now) }
     ensures wide { IsErrOf result Wide → IsWideLin (times k a.now) }
+    ensures narrow { IfOk result (λ _. ¬ (IsWideLin (times k a.now))) }
 {
     let terms = scale_terms(alloc, k, a.terms.as_slice())?;
     let Some(constant) = k.checked_mul(a.constant) else {
@@ -150,12 +156,38 @@ pub(crate) fn times(alloc: Global, k: i128, a: &Lin) -> Result<Lin, Refusal>
 pub(crate) fn shifted(alloc: Global, a: &Lin, j: u64) -> Result<Lin, Refusal>
     ensures sum { IfOk result (λ r. r ≡ plus a.now (number (pos j))) }
     ensures wide { IsErrOf result Wide → IsWideLin (plus a.now (number (pos j))) }
+    ensures narrow { IfOk result (λ _. IsWideLin (plus a.now (number (pos j))) → IsWideLin a.now) }
 {
     let Some(constant) = a.constant.checked_add(i128::from(j)) else {
         return Err(Refusal::Wide);
     };
     let terms = Items::from_slice(alloc, a.terms.as_slice())?;
     Ok(Lin { terms, constant })
+}
+
+fn copy_terms(alloc: Global, a: &[(Var, i128)]) -> Result<Items<(Var, i128)>, Refusal>
+    ensures terms { IfOk result (λ ts. ts ≡ a.now) }
+    ensures narrow { IfOk result (λ ts. ¬ (HasWideTerm ts)) }
+    ensures memory { OnErr result (IsErrOf result Memory) }
+{
+    let mut terms = Items::new(alloc);
+    for (v, c) in a {
+        terms.push((*v, *c))?;
+    }
+    Ok(terms)
+}
+
+// The same sum, whose numbers are of 128 bits.
+pub(crate) fn copy(alloc: Global, a: &Lin) -> Result<Lin, Refusal>
+    ensures sum { IfOk result (λ r. r ≡ a.now) }
+    ensures narrow { IfOk result (λ _. ¬ (IsWideLin a.now)) }
+    ensures memory { OnErr result (IsErrOf result Memory) }
+{
+    let terms = copy_terms(alloc, a.terms.as_slice())?;
+    Ok(Lin {
+        terms,
+        constant: a.constant,
+    })
 }
 
 // The sum without variables.
@@ -245,6 +277,7 @@ pub(crate) fn same_lin(a: &Lin, b: &Lin) -> bool
 pub(crate) fn negate_all(alloc: Global, sums: &[Lin]) -> Result<Items<Lin>, Refusal>
     ensures sums { IfOk result (λ all. all ≡ map (times (negsuc 0)) sums.now) }
     ensures wide { IsErrOf result Wide → ((a : Lin) × (Contains sums.now a × IsWideLin (times (negsuc 0) a))) }
+    ensures narrow { IfOk result (λ _. (a : Lin) → Contains sums.now a → ¬ (IsWideLin (times (negsuc 0) a))) }
 {
     let mut all = Items::new(alloc);
     for a in sums {

@@ -11,7 +11,7 @@ ghost use Rattle.hs_cooper.specs.Normalizing.{side, first_stage};
 ghost use Rattle.hs_cooper.specs.declared.stop.Refusal.TheVariants.{Wide};
 
 use crate::gather::Gathered;
-use crate::linear::{add, subtract_and_one};
+use crate::linear::{add, copy, subtract_and_one};
 use crate::nnf::{Connective, Literal, Nnf, Relation, evaluated};
 use crate::sign::Sign;
 use crate::stop::Refusal;
@@ -69,6 +69,7 @@ fn side(positive: bool, c: Connective) -> Connective
 fn less(alloc: Global, a: &Lin, b: &Lin) -> Result<Literal, Refusal>
     ensures form { IfOk result (λ r. literal_form r ≡ less a.now b.now) }
     ensures wide { IsErrOf result Wide → IsWide (less a.now b.now) }
+    ensures narrow { IfOk result (λ _. ¬ (IsWide (less a.now b.now))) }
 {
     Ok(Literal {
         relation: Relation::Positive,
@@ -80,6 +81,7 @@ fn less(alloc: Global, a: &Lin, b: &Lin) -> Result<Literal, Refusal>
 fn at_most(alloc: Global, a: &Lin, b: &Lin) -> Result<Literal, Refusal>
     ensures form { IfOk result (λ r. literal_form r ≡ at_most a.now b.now) }
     ensures wide { IsErrOf result Wide → IsWide (at_most a.now b.now) }
+    ensures narrow { IfOk result (λ _. ¬ (IsWide (at_most a.now b.now))) }
 {
     Ok(Literal {
         relation: Relation::Positive,
@@ -91,6 +93,7 @@ fn at_most(alloc: Global, a: &Lin, b: &Lin) -> Result<Literal, Refusal>
 fn less_or_not(alloc: Global, positive: bool, a: &Lin, b: &Lin) -> Result<Literal, Refusal>
     ensures form { IfOk result (λ r. literal_form r ≡ normal positive (lt a.now b.now)) }
     ensures wide { IsErrOf result Wide → IsWide (normal positive (lt a.now b.now)) }
+    ensures narrow { IfOk result (λ _. ¬ (IsWide (normal positive (lt a.now b.now)))) }
 {
     if positive {
         less(alloc, a, b)
@@ -103,6 +106,7 @@ fn less_or_not(alloc: Global, positive: bool, a: &Lin, b: &Lin) -> Result<Litera
 fn at_most_or_not(alloc: Global, positive: bool, a: &Lin, b: &Lin) -> Result<Literal, Refusal>
     ensures form { IfOk result (λ r. literal_form r ≡ normal positive (le a.now b.now)) }
     ensures wide { IsErrOf result Wide → IsWide (normal positive (le a.now b.now)) }
+    ensures narrow { IfOk result (λ _. ¬ (IsWide (normal positive (le a.now b.now)))) }
 {
     if positive {
         at_most(alloc, a, b)
@@ -116,6 +120,7 @@ fn equal_or_not(alloc: Global, positive: bool, a: &Lin, b: &Lin) -> Result<Nnf, 
     ensures form { IfOk result (λ r. form_of r ≡ evaluate (normal positive (eq a.now b.now))) }
     ensures canonical { IfOk result IsCanonical }
     ensures wide { IsErrOf result Wide → IsWide (normal positive (eq a.now b.now)) }
+    ensures narrow { IfOk result (λ _. ¬ (IsWide (normal positive (eq a.now b.now)))) }
 {
     let mut members = Gathered::new(alloc, side(positive, Connective::And));
     if positive {
@@ -133,6 +138,7 @@ fn divides_or_not(alloc: Global, positive: bool, d: i128, a: &Lin) -> Result<Nnf
     ensures form { IfOk result (λ r. form_of r ≡ evaluate (normal positive (divides d a.now))) }
     ensures canonical { IfOk result IsCanonical }
     ensures wide { IsErrOf result Wide → IsWide (normal positive (divides d a.now)) }
+    ensures narrow { IfOk result (λ _. ¬ (IsWide (normal positive (divides d a.now)))) }
 {
     if d < 1 {
         return Ok(Nnf::Truth(!positive));
@@ -143,7 +149,7 @@ fn divides_or_not(alloc: Global, positive: bool, d: i128, a: &Lin) -> Result<Nnf
     } else {
         Relation::NoMultiple(d)
     };
-    let sum = a.copy(alloc)?;
+    let sum = copy(alloc, a)?;
     Ok(evaluated(Literal { relation, sum }))
 }
 
@@ -153,6 +159,7 @@ pub(crate) fn normalize(alloc: Global, positive: bool, p: &Pure) -> Result<Nnf, 
     ensures form { IfOk result (λ r. form_of r ≡ evaluate (first_stage positive p.now)) }
     ensures canonical { IfOk result IsCanonical }
     ensures wide { IsErrOf result Wide → IsWide (first_stage positive p.now) }
+    ensures narrow { IfOk result (λ _. ¬ (IsWide (first_stage positive p.now))) }
 {
     match p {
         Pure::Eq(a, b) => equal_or_not(alloc, positive, a, b),
@@ -181,6 +188,7 @@ fn normalize_all(
     ensures form { IfOk result (λ r. form_of r ≡ joined (side positive connective) (map (λ p. evaluate (first_stage positive p)) ps.now)) }
     ensures canonical { IfOk result IsCanonical }
     ensures wide { IsErrOf result Wide → ((p : Pure) × (Contains ps.now p × IsWide (first_stage positive p))) }
+    ensures narrow { IfOk result (λ _. (p : Pure) → Contains ps.now p → ¬ (IsWide (first_stage positive p))) }
 {
     let mut members = Gathered::new(alloc, side(positive, connective));
     for p in ps {

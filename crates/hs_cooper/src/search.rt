@@ -1,20 +1,19 @@
 //! A value of a variable that makes a formula true.
 
-ghost use Rattle.std.specs.Prelude.{◌≡◌, ◌≤◌, ◌<◌, ◌^◌, ◌⊎◌, ◌↔◌, ◌*ℤ◌, ℤ, None, pos, IfOk, IfSome, IsErrOf, IsTrue, int_div};
-ghost use Rattle.std.specs.List.{Contains};
+ghost use Rattle.std.specs.Prelude.{◌≡◌, ◌≤◌, ◌<◌, ◌^◌, ◌⊎◌, ℤ, None, pos, IfOk, IfSome, IsErrOf, IsTrue, int_div};
 ghost use Rattle.hs_pure.specs.Assertion.{assertion_of};
 ghost use Rattle.hs_pure.specs.Eval.{stack_of, NumbersFit};
 ghost use Rattle.hs_pure.specs.Stack.{with_value, number_value};
 ghost use Rattle.hs_pure.specs.Sums.{IsOrdered};
 ghost use Rattle.hs_pure.specs.Truth.{TrueAt};
-ghost use Rattle.hs_pure.specs.declared.lin.Lin.{Lin};
 ghost use Rattle.hs_elimination.specs.Elimination.{PassesAtoms, PassesBits};
 ghost use Rattle.hs_elimination.specs.Form.{assertion, IsWide};
 ghost use Rattle.hs_elimination.specs.Linear.{place};
 ghost use Rattle.hs_elimination.specs.Normal.{is_simple};
-ghost use Rattle.hs_elimination.specs.Witness.{FormTrueAt, near_case, low_case, NoneLow, NoneNear, PassesValues};
+ghost use Rattle.hs_elimination.specs.Decided.{evaluates_to};
+ghost use Rattle.hs_elimination.specs.Witness.{near_at, first_near_bound, first_near, low_at, first_low, first_value, plain_value, IsWideLow, PassesValues};
 ghost use Rattle.hs_cooper.specs.Reading.{form_of};
-ghost use Rattle.hs_cooper.specs.Searching.{IsNearAt, IsNearBound, IsNear, IsLowNumber, IsRefusedNearAt, IsRefusedNearBound, IsRefusedNear, IsRefusedLow};
+ghost use Rattle.hs_cooper.specs.Searching.{IsRefusedNearAt, IsRefusedNearBound, IsRefusedNear, IsRefusedLowAt, IsRefusedLow, IsRefusedSearch};
 ghost use Rattle.hs_cooper.specs.declared.stop.Refusal.TheVariants as refusal;
 ghost use Rattle.hs_cooper.specs.declared.stop.Stop.TheVariants.{Atoms, Wide};
 
@@ -33,7 +32,7 @@ use std::alloc::Global;
 
 // Whether the formula is true at `v`.
 fn is_true(alloc: Global, f: &Nnf, v: &Valuation) -> Result<bool, Refusal>
-    ensures truth { IfOk result (λ b. IsTrue b ↔ FormTrueAt (stack_of v.now) (form_of f.now)) }
+    ensures truth { IfOk result (λ b. b ≡ evaluates_to (stack_of v.now) (assertion (form_of f.now))) }
     ensures wide { IsErrOf result refusal.Wide → IsWide (form_of f.now) ⊎ (¬ (NumbersFit (stack_of v.now) (assertion (form_of f.now)))) }
 {
     let p = to_pure(alloc, f)?;
@@ -52,8 +51,7 @@ fn near_at(
     j: u64,
     v: &Valuation,
 ) -> Result<Option<i128>, Refusal>
-    ensures found { IfOk result (λ o. IfSome o (IsNearAt (stack_of v.now) (place x) (form_of f.now) b.now j)) }
-    ensures none { IfOk result (λ o. o ≡ None → ¬ (FormTrueAt (stack_of v.now) (near_case (place x) (form_of f.now) b.now j))) }
+    ensures first { IfOk result (λ o. o ≡ near_at (stack_of v.now) (place x) (form_of f.now) b.now j) }
     ensures wide { IsErrOf result refusal.Wide → IsRefusedNearAt (stack_of v.now) x (form_of f.now) b.now j }
 {
     let sum = shifted(alloc, b, j)?;
@@ -78,8 +76,7 @@ fn near_bound(
     v: &Valuation,
 ) -> Result<Option<i128>, Refusal>
     requires { period < 2 ^ 31 }
-    ensures found { IfOk result (λ o. IfSome o (IsNearBound (stack_of v.now) (place x) (form_of f.now) period b.now)) }
-    ensures none { IfOk result (λ o. o ≡ None → NoneNear (stack_of v.now) (place x) (form_of f.now) period b.now) }
+    ensures first { IfOk result (λ o. o ≡ first_near_bound (stack_of v.now) (place x) (form_of f.now) period b.now) }
     ensures wide { IsErrOf result refusal.Wide → IsRefusedNearBound (stack_of v.now) x (form_of f.now) period b.now }
 {
     for j in 1..period + 1 {
@@ -100,8 +97,7 @@ fn near(
     v: &Valuation,
 ) -> Result<Option<i128>, Refusal>
     requires { period < 2 ^ 31 }
-    ensures found { IfOk result (λ o. IfSome o (IsNear (stack_of v.now) (place x) (form_of f.now) period bounds.now)) }
-    ensures none { IfOk result (λ o. o ≡ None → (b : Lin) → Contains bounds.now b → NoneNear (stack_of v.now) (place x) (form_of f.now) period b) }
+    ensures first { IfOk result (λ o. o ≡ first_near (stack_of v.now) (place x) (form_of f.now) period bounds.now) }
     ensures wide { IsErrOf result refusal.Wide → IsRefusedNear (stack_of v.now) x (form_of f.now) period bounds.now }
 {
     for b in bounds {
@@ -124,9 +120,8 @@ fn low_at(
     requires some { 1 ≤ j }
     requires within { j ≤ period }
     requires small { period < 2 ^ 31 }
-    ensures found { IfOk result (λ o. IfSome o (IsLowNumber (stack_of v.now) (place x) (form_of f.now) period)) }
-    ensures none { IfOk result (λ o. o ≡ None → ¬ (FormTrueAt (stack_of v.now) (low_case (place x) (form_of f.now) j))) }
-    ensures wide { IsErrOf result refusal.Wide → IsRefusedLow (stack_of v.now) x (form_of f.now) period }
+    ensures first { IfOk result (λ o. o ≡ low_at (stack_of v.now) (place x) (form_of f.now) period j) }
+    ensures wide { IsErrOf result refusal.Wide → IsRefusedLowAt (stack_of v.now) x (form_of f.now) j ⊎ IsWideLow (stack_of v.now) (place x) (form_of f.now) (low_at (stack_of v.now) (place x) (form_of f.now) period j) }
 {
     let case = apply(alloc, &Change::Low(x, j), f)?;
     if !is_true(alloc, &case, v)? {
@@ -143,8 +138,7 @@ fn low_at(
 // The value of the first number from 1 to `period` that makes the minus-infinity form true.
 fn low(alloc: Global, f: &Nnf, x: Var, period: u64, v: &Valuation) -> Result<Option<i128>, Refusal>
     requires { period < 2 ^ 31 }
-    ensures found { IfOk result (λ o. IfSome o (IsLowNumber (stack_of v.now) (place x) (form_of f.now) period)) }
-    ensures none { IfOk result (λ o. o ≡ None → NoneLow (stack_of v.now) (place x) (form_of f.now) period) }
+    ensures first { IfOk result (λ o. o ≡ first_low (stack_of v.now) (place x) (form_of f.now) period) }
     ensures wide { IsErrOf result refusal.Wide → IsRefusedLow (stack_of v.now) x (form_of f.now) period }
 {
     for j in 1..period + 1 {
@@ -165,10 +159,8 @@ fn search(
     v: &Valuation,
 ) -> Result<Option<i128>, Refusal>
     requires { period < 2 ^ 31 }
-    ensures found { IfOk result (λ o. IfSome o (λ y. IsNear (stack_of v.now) (place x) (form_of f.now) period bounds.now y ⊎ IsLowNumber (stack_of v.now) (place x) (form_of f.now) period y)) }
-    ensures far { IfOk result (λ o. o ≡ None → (b : Lin) → Contains bounds.now b → NoneNear (stack_of v.now) (place x) (form_of f.now) period b) }
-    ensures high { IfOk result (λ o. o ≡ None → NoneLow (stack_of v.now) (place x) (form_of f.now) period) }
-    ensures wide { IsErrOf result refusal.Wide → IsRefusedNear (stack_of v.now) x (form_of f.now) period bounds.now ⊎ IsRefusedLow (stack_of v.now) x (form_of f.now) period }
+    ensures first { IfOk result (λ o. o ≡ first_value (stack_of v.now) (place x) (form_of f.now) period bounds.now) }
+    ensures wide { IsErrOf result refusal.Wide → IsRefusedSearch (stack_of v.now) x (form_of f.now) period bounds.now }
 {
     if let Some(y) = near(alloc, f, x, bounds, period, v)? {
         return Ok(Some(y));
@@ -185,12 +177,12 @@ fn quotient(y: i128, by: u128) -> i128
     y / by as i128
 }
 
-/// A value of `x` that makes `f` true where the other variables are worth what `v` says, or none where no
-/// integer does. `f` has neither quantifiers nor bag literals, its sums are in order, and `budget` is at most
+/// The plain value of `x`, which makes `f` true where the other variables are worth what `v` says, or none where
+/// no integer does. `f` has neither quantifiers nor bag literals, its sums are in order, and `budget` is at most
 /// 2^30.
 ///
-/// The stops are those of `eliminate`, and `Wide` comes also where a partial sum at `v`, or the value of x,
-/// passes 128 bits.
+/// The stops are those of `eliminate`, and `Wide` comes also where a partial sum at `v`, or the plain value of
+/// `x`, passes 128 bits.
 pub fn witness(
     alloc: Global,
     x: Var,
@@ -201,6 +193,7 @@ pub fn witness(
     requires simple { IsTrue (is_simple (assertion_of f.now)) }
     requires ordered { IsOrdered f.now }
     requires small { budget ≤ 2 ^ 30 }
+    ensures plain { IfOk result (λ o. o ≡ plain_value (stack_of v.now) x (assertion_of f.now)) }
     ensures found { IfOk result (λ o. IfSome o (λ y. TrueAt (with_value x (number_value y) (stack_of v.now)) f.now)) }
     ensures none { IfOk result (λ o. o ≡ None → (y : ℤ) → ¬ (TrueAt (with_value x (number_value y) (stack_of v.now)) f.now)) }
     ensures atoms { IsErrOf result Atoms → PassesAtoms budget x (assertion_of f.now) }

@@ -1,7 +1,9 @@
 //! The third stage.
 
 ghost use Rattle.std.specs.Prelude.{◌≡◌, ◌+◌, ◌*◌, ◌≤◌, ◌<◌, ◌^◌, ◌⊎◌, ◌↔◌, IfOk, IsErrOf, IsTrue};
-ghost use Rattle.hs_elimination.specs.Linear.{place};
+ghost use Rattle.std.specs.List.{Contains};
+ghost use Rattle.hs_pure.specs.declared.lin.Lin.{Lin};
+ghost use Rattle.hs_elimination.specs.Linear.{place, IsWideLin};
 ghost use Rattle.hs_elimination.specs.Form.{atoms, IsWide};
 ghost use Rattle.hs_elimination.specs.Normal.{evaluate};
 ghost use Rattle.hs_elimination.specs.Cases.{distinct_bounds, period, stage3};
@@ -59,6 +61,7 @@ pub(crate) fn count_cases(alloc: Global, f: &Nnf, x: Var, budget: u64) -> Result
     ensures within { IfOk result (λ _. atoms (stage3 x (form_of f.now)) ≤ budget) }
     ensures atoms { IsErrOf result Atoms → budget < atoms (stage3 x (form_of f.now)) }
     ensures wide { IsErrOf result Wide → ((atoms (stage3 x (form_of f.now)) ≤ budget) × HasWideSum (place x) (form_of f.now)) }
+    ensures narrow { IfOk result (λ r. (b : Lin) → Contains r.bounds b → ¬ (IsWideLin b)) }
 {
     let Some(period) = period(f, x, 1, budget) else {
         return Err(Stop::Atoms);
@@ -92,6 +95,7 @@ pub(crate) fn third_stage(alloc: Global, f: &Nnf, x: Var, budget: u64) -> Result
     ensures atoms { IsErrOf result Atoms → budget < atoms (stage3 x (form_of f.now)) }
     ensures wide { IsErrOf result Wide
         → ((atoms (stage3 x (form_of f.now)) ≤ budget) × (IsWide (stage3 x (form_of f.now)) ⊎ HasWideSum (place x) (form_of f.now))) }
+    ensures narrow { IfOk result (λ _. IsWide (stage3 x (form_of f.now)) ⊎ HasWideSum (place x) (form_of f.now) → IsWide (form_of f.now)) }
 {
     let cases = count_cases(alloc, f, x, budget)?;
     Ok(all_cases(alloc, f, x, cases.bounds.as_slice(), cases.period)?)

@@ -3,7 +3,7 @@ use Rattle.std.proofs.Common.{◌≡◌, ℕ, zero, suc, ◌+◌, ◌*◌, ◌-�
 use Rattle.std.proofs.lemmas.Int.{ints, clamps, by_lt_z}
 use Rattle.std.specs.Prelude.{ℤ}
 use Rattle.std.specs.Int.{int_min}
-use Rattle.hs_elimination.proofs.Univariate.{Form, const, above, below, multiple, no_multiple, both, either, Divides, Holds, minus_infinity, IsLowerBound, DivisorsDivide, HasInstance, IsLow, IsCongruent, HasBound, IsPlainLow, NoneNear, NoneLow}
+use Rattle.hs_elimination.proofs.Univariate.{Form, const, above, below, multiple, no_multiple, both, either, Divides, Holds, minus_infinity, IsLowerBound, DivisorsDivide, HasInstance, IsLow, IsCongruent}
 use Rattle.hs_elimination.proofs.Integers.{ring, mul-sum_left, mul-neg_left, mul_assoc}
 use Rattle.std.proofs.Math.IntN.{nat_abs}
 use Rattle.std.proofs.Math.Nat.{le-mul_of_pos_right}
@@ -184,38 +184,3 @@ agree_low (either f g) y h =
 -- the value that is taken where no sum b + j works
 pub low_works : (m : ℕ) (f : Form) (j : ℕ) (y : ℤ) → DivisorsDivide m f → Holds (pos j) (minus_infinity f) → IsCongruent m y (pos j) → IsLow y f → Holds y f
 low_works m f j y d h c l = (agree_low f y l).1 (subst (λ (z : ℤ). Holds z (minus_infinity f)) (sym c.1) (period m f (pos j) c.0 d h))
-
--- where nothing works, there is no solution
-pub none_works : (m : ℕ) (bs : ℤ → Type 0) (f : Form) → 0 < m → DivisorsDivide m f → ((b : ℤ) → IsLowerBound f b → bs b) → NoneNear m bs f → NoneLow m f → (x : ℤ) → ¬ (Holds x f)
-none_works m bs f h d all near low x p =
-    let i = instance_from_solution m bs f h d all x p in
-    elim i.3 [ inl q ↦ low i.0 i.1 i.2 q | inr q ↦ near i.0 i.1 i.2 q.0 q.1 q.2 ]
-
-solved : (c j r k m : ℤ) → (c -ℤ j +ℤ pos 1) +ℤ k *ℤ m ≡ r → c -ℤ r +ℤ pos 1 ≡ j +ℤ neg_ℤ k *ℤ m
-solved c j r k m e = rw mul-neg_left (omega (arith, ints))
-
--- the greatest number at or below c that is congruent to j
-pub greatest_congruent : (m j : ℕ) (c : ℤ) → 0 < m → (y : ℤ) × IsCongruent m y (pos j) × (y ≤ℤ c) × (c <ℤ (y +ℤ pos m))
-greatest_congruent m j c h =
-    let r = residue m (c -ℤ pos j +ℤ pos 1) h in
-    let y = (c -ℤ pos r.0) +ℤ pos 1 in
-    (y, (neg_ℤ r.3, solved c (pos j) (pos r.0) r.3 (pos m) r.4), omega (arith, ints, r.1), omega (arith, ints, r.2))
-
-no_bound_low : (f : Form) (y : ℤ) → ¬ (HasBound f) → IsLow y f
-no_bound_low (const p) y h = tt
-no_bound_low (above b) y h = absurd (h tt)
-no_bound_low (below a) y h = absurd (h tt)
-no_bound_low (multiple d t) y h = tt
-no_bound_low (no_multiple d t) y h = tt
-no_bound_low (both f g) y h = (no_bound_low f y (λ p. h (inl p)), no_bound_low g y (λ p. h (inr p)))
-no_bound_low (either f g) y h = (no_bound_low f y (λ p. h (inl p)), no_bound_low g y (λ p. h (inr p)))
-
-congruent_self : (m : ℕ) (z : ℤ) → z ≡ z +ℤ pos 0 *ℤ pos m
-congruent_self m z = omega (arith, ints)
-
-pub plain_low_works : (m : ℕ) (f : Form) (y : ℤ) → DivisorsDivide m f → IsPlainLow m f y → Holds y f
-plain_low_works m f y d p =
-    elim p.5 [
-      | inl g ↦ low_works m f p.0 y d p.3 g.1 g.2
-      | inr n ↦ low_works m f p.0 y d p.3 (pos 0, n.1 ∙ congruent_self m (pos p.0)) (no_bound_low f y n.0)
-    ]

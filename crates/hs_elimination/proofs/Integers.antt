@@ -41,17 +41,5 @@ linear a b c e = omega (arith, ints)
 -- what turns an equation of products into one that is linear in them: `simp ring (omega (arith, ints))`
 pub ruleset ring = (mul-sum_left, mul-sum_right, mul-neg_left, mul-neg_right, mul_assoc, mul_left_comm, *ℤ_comm)
 
-square : (a b : ℤ) → (a +ℤ b) *ℤ (a -ℤ b) ≡ a *ℤ a -ℤ b *ℤ b
-square a b = simp ring (omega (arith, ints))
-
-cube : (a b c d : ℤ) → (a +ℤ b) *ℤ (c -ℤ d) *ℤ a ≡ a *ℤ a *ℤ c -ℤ d *ℤ (a *ℤ a) +ℤ c *ℤ (b *ℤ a) -ℤ a *ℤ b *ℤ d
-cube a b c d = simp ring (omega (arith, ints))
-
-with_hyp : (a b c d : ℤ) → a ≡ c *ℤ d → a +ℤ b *ℤ d ≡ (c +ℤ b) *ℤ d
-with_hyp a b c d e = simp ring (omega (arith, ints))
-
-with_hyp2 : (a b c d : ℤ) → a ≡ c *ℤ d → a *ℤ b ≡ (c *ℤ b) *ℤ d
-with_hyp2 a b c d e = rw e (simp ring)
-
 order : (a b c : ℤ) → a ≤ℤ b → b <ℤ c → (a +ℤ pos 1) ≤ℤ c
 order a b c h k = omega (arith, ints)

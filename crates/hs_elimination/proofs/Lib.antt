@@ -17,4 +17,5 @@ pub mod RisingResult
 pub mod Order
 pub mod Decided
 pub mod Witness
+pub mod PlainValue
 pub mod Simple

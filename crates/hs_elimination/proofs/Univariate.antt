@@ -1,5 +1,5 @@
 -- A formula of linear integer arithmetic in one variable x, after the coefficients of x have become 1 or -1: every other variable has its value, so a literal is known by one integer.
-use Rattle.std.specs.Prelude.{◌≡◌, ℕ, ◌-◌, ◌*◌, ◌≤◌, ◌⊎◌, ℤ, pos, ◌+ℤ◌, ◌*ℤ◌, ◌<ℤ◌, ◌≤ℤ◌}
+use Rattle.std.specs.Prelude.{◌≡◌, ℕ, ◌*◌, ◌≤◌, ◌⊎◌, ℤ, pos, ◌+ℤ◌, ◌*ℤ◌, ◌<ℤ◌, ◌≤ℤ◌}
 
 -- d divides z
 abbrev pub Divides : ℕ → ℤ → Type 0
@@ -72,30 +72,3 @@ IsLow y (either f g) = IsLow y f × IsLow y g
 -- y differs from z by a multiple of m
 abbrev pub IsCongruent : ℕ → ℤ → ℤ → Type 0
 IsCongruent m y z = (k : ℤ) × (y ≡ z +ℤ k *ℤ pos m)
-
-abbrev pub HasBound : Form → Type 0
-HasBound (const p) = ⊥
-HasBound (above b) = Unit {0}
-HasBound (below a) = Unit {0}
-HasBound (multiple d t) = ⊥
-HasBound (no_multiple d t) = ⊥
-HasBound (both f g) = HasBound f ⊎ HasBound g
-HasBound (either f g) = HasBound f ⊎ HasBound g
-
--- the greatest low number that is congruent to j; where f has no bound, j
-abbrev pub IsGreatestLow : ℕ → ℕ → Form → ℤ → Type 0
-IsGreatestLow m j f y =
-    (HasBound f × IsCongruent m y (pos j) × IsLow y f × ((z : ℤ) → IsCongruent m z (pos j) → IsLow z f → z ≤ℤ y))
-    ⊎ (¬ (HasBound f) × (y ≡ pos j))
-
--- no sum b + j makes f true
-abbrev pub NoneNear : ℕ → (ℤ → Type 0) → Form → Type 0
-NoneNear m bounds f = (j : ℕ) → 1 ≤ j → j ≤ m → (b : ℤ) → bounds b → ¬ (Holds (b +ℤ pos j) f)
-
--- no minus-infinity form is true at a number from 1 to n
-abbrev pub NoneLow : ℕ → Form → Type 0
-NoneLow n f = (j : ℕ) → 1 ≤ j → j ≤ n → ¬ (Holds (pos j) (minus_infinity f))
-
--- the value that plain decision takes: the first sum b + j that works, or else the greatest low number at the first j that works
-abbrev pub IsPlainLow : ℕ → Form → ℤ → Type 0
-IsPlainLow m f y = (j : ℕ) × (1 ≤ j) × (j ≤ m) × Holds (pos j) (minus_infinity f) × NoneLow (j - 1) f × IsGreatestLow m j f y

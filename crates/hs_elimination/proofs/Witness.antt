@@ -13,12 +13,12 @@ use Rattle.hs_pure.specs.Stack.{Stack, with_value, number_value}
 use Rattle.hs_pure.specs.Truth as Truth
 use Rattle.hs_pure.specs.Truth.{IsTrueAt}
 use Rattle.hs_elimination.specs.Linear.{place, plus, number, coefficient, rest}
-use Rattle.hs_elimination.specs.Form.{Form, const, positive, multiple, no_multiple, conjunction, disjunction}
+use Rattle.hs_elimination.specs.Form.{Form, const, positive, multiple, no_multiple, conjunction, disjunction, assertion}
 use Rattle.hs_elimination.specs.Normal.{is_simple, normal, evaluate}
 use Rattle.hs_elimination.specs.Scaling.{multiplier}
 use Rattle.hs_elimination.specs.Cases.{substitute, minus_infinity, distinct_bounds, period, cases_to, cooper}
 use Rattle.hs_elimination.specs.Elimination.{scaled_form}
-use Rattle.hs_elimination.specs.Witness.{low_case, near_case, FormTrueAt, NoneLow, NoneNear, limit_of, lesser_limit, least_limit, excess, low_value}
+use Rattle.hs_elimination.specs.Witness.{low_case, near_case, limit_of, lesser_limit, least_limit, excess, low_value}
 use Rattle.hs_elimination.proofs.Univariate as U
 use Rattle.hs_elimination.proofs.Cooper as C
 use Rattle.hs_elimination.proofs.Integers.{mul-sum_left, mul-neg_left}
@@ -135,6 +135,20 @@ exact-div (suc k) (negsuc n) h = by_size (suc k * suc n) refl
 
 pub exact_quotient : (l : ℕ) (q y : ℤ) → 0 < l → y ≡ pos l *ℤ q → int_div y (pos l) ≡ q
 exact_quotient l q y h e = ap (λ z. int_div z (pos l)) e ∙ exact-div l q h
+
+-- ---- truth of a case
+
+-- the formula is true at s
+abbrev pub FormTrueAt : Stack → Form → Type 0
+FormTrueAt s f = IsTrueAt s (assertion f)
+
+-- no number from 1 to m makes the minus-infinity form true
+abbrev pub NoneLow : Stack → ℕ → Form → ℕ → Type 0
+NoneLow s x f m = (j : ℕ) → 1 ≤ j → j ≤ m → ¬ (FormTrueAt s (low_case x f j))
+
+-- no sum of b and a number from 1 to m makes the formula true
+abbrev pub NoneNear : Stack → ℕ → Form → ℕ → Lin → Type 0
+NoneNear s x f m b = (j : ℕ) → 1 ≤ j → j ≤ m → ¬ (FormTrueAt s (near_case x f b j))
 
 -- ---- the stages
 module _ (x : Var) (p : Assertion) (s : Stack) (q : is_simple p ≡ true) (r : HasRising p) where

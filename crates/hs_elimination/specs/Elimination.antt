@@ -34,28 +34,33 @@ without_variable x p = assertion (eliminated x p)
 
 -- a lower bound b of the formula, or a sum b + j of its third stage, passes 128 bits
 abbrev pub HasWideSum : ℕ → Form → Type 0
-HasWideSum x f = (b : Lin) × (Contains (distinct_bounds x f) b × (IsWideLin b ⊎ ((j : ℕ) × ((j ≤ period x f 1) × IsWideLin (plus b (number (pos j)))))))
+HasWideSum x f = (b : Lin) × (Contains (distinct_bounds x f) b × (IsWideLin b ⊎ ((j : ℕ) × ((1 ≤ j) × (j ≤ period x f 1) × IsWideLin (plus b (number (pos j)))))))
 
 -- a number of the third stage passes 128 bits
 abbrev pub HasWideCases : Var → Assertion → Type 0
 HasWideCases x p = IsWide (cases_form x p) ⊎ HasWideSum (place x) (evaluate (scaled_form x p))
 
--- no stage has more than `budget` atoms
+-- a stage has at most `budget` atoms and no number past 128 bits
+abbrev pub IsWithin : ℕ → Form → Type 0
+IsWithin budget f = (atoms f ≤ budget) × (¬ (IsWide f))
+
+-- no stage passes a bound
 pub record StaysWithin (budget : ℕ) (x : Var) (p : Assertion) : Type 0 where
-  pub normal_atoms : atoms (normal_form p) ≤ budget
-  pub scaled_atoms : atoms (scaled_form x p) ≤ budget
-  pub cases_atoms : atoms (cases_form x p) ≤ budget
+  pub first : IsWithin budget (normal_form p)
+  pub second : IsWithin budget (scaled_form x p)
+  pub third_atoms : atoms (cases_form x p) ≤ budget
+  pub third_bits : ¬ (HasWideCases x p)
 
 -- the first stage that passes a bound has more than `budget` atoms
 abbrev pub PassesAtoms : ℕ → Var → Assertion → Type 0
 PassesAtoms budget x p =
     (budget < atoms (normal_form p))
-    ⊎ ((atoms (normal_form p) ≤ budget) × (budget < atoms (scaled_form x p)))
-    ⊎ ((atoms (normal_form p) ≤ budget) × (atoms (scaled_form x p) ≤ budget) × (budget < atoms (cases_form x p)))
+    ⊎ (IsWithin budget (normal_form p) × (budget < atoms (scaled_form x p)))
+    ⊎ (IsWithin budget (normal_form p) × IsWithin budget (scaled_form x p) × (budget < atoms (cases_form x p)))
 
--- no stage up to one with a number past 128 bits has more than `budget` atoms
+-- the first stage that passes a bound has at most `budget` atoms and a number past 128 bits
 abbrev pub PassesBits : ℕ → Var → Assertion → Type 0
 PassesBits budget x p =
     ((atoms (normal_form p) ≤ budget) × IsWide (normal_form p))
-    ⊎ ((atoms (normal_form p) ≤ budget) × (atoms (scaled_form x p) ≤ budget) × IsWide (scaled_form x p))
-    ⊎ ((atoms (normal_form p) ≤ budget) × (atoms (scaled_form x p) ≤ budget) × (atoms (cases_form x p) ≤ budget) × HasWideCases x p)
+    ⊎ (IsWithin budget (normal_form p) × (atoms (scaled_form x p) ≤ budget) × IsWide (scaled_form x p))
+    ⊎ (IsWithin budget (normal_form p) × IsWithin budget (scaled_form x p) × (atoms (cases_form x p) ≤ budget) × HasWideCases x p)

@@ -1,5 +1,5 @@
--- A value of x that makes a formula true, at a stack for the other variables, and the numbers of the search.
-use Rattle.std.specs.Prelude.{ℕ, zero, suc, ◌-◌, ◌+◌, ◌%◌, ◌≤◌, ◌⊎◌, Option, None, Some, ℤ, pos, negsuc, ◌-ℤ◌, neg_ℤ, unsigned_abs, FitsSigned}
+-- The plain value of x, which makes a formula true at a stack for the other variables, and the numbers of its search.
+use Rattle.std.specs.Prelude.{◌≡◌, ℕ, zero, suc, ◌-◌, ◌+◌, ◌%◌, ◌≤◌, ◌⊎◌, if◌then◌else◌, List, [], ◌∷◌, Option, None, Some, ℤ, pos, negsuc, ◌-ℤ◌, neg_ℤ, int_div, unsigned_abs, FitsSigned}
 use Rattle.std.specs.Int.{int_min, int_rem_euclid}
 use Rattle.std.specs.List.{Contains}
 use mir.Syntax.{w128}
@@ -7,13 +7,15 @@ use Rattle.hs_pure.specs.declared.var.Var.{Var}
 use Rattle.hs_pure.specs.declared.lin.Lin.{Lin}
 use Rattle.hs_pure.specs.Assertion.{Assertion}
 use Rattle.hs_pure.specs.Stack.{Stack}
-use Rattle.hs_pure.specs.Truth.{value, IsTrueAt}
+use Rattle.hs_pure.specs.Truth.{value}
 use Rattle.hs_pure.specs.Eval.{SumFits, NumbersFit}
 use Rattle.hs_elimination.specs.Linear.{place, plus, number, coefficient, rest}
 use Rattle.hs_elimination.specs.Form.{Form, const, positive, multiple, no_multiple, conjunction, disjunction, assertion}
 use Rattle.hs_elimination.specs.Normal.{evaluate}
 use Rattle.hs_elimination.specs.Cases.{substitute, minus_infinity, distinct_bounds, period}
-use Rattle.hs_elimination.specs.Elimination.{scaled_form}
+use Rattle.hs_elimination.specs.Scaling.{multiplier}
+use Rattle.hs_elimination.specs.Elimination.{normal_form, scaled_form}
+use Rattle.hs_elimination.specs.Decided.{evaluates_to}
 
 -- ---- cases of the third stage
 
@@ -24,18 +26,6 @@ low_case x f j = evaluate (substitute x (number (pos j)) (minus_infinity x f))
 -- the formula at b + j
 abbrev pub near_case : ℕ → Form → Lin → ℕ → Form
 near_case x f b j = evaluate (substitute x (plus b (number (pos j))) f)
-
--- the formula is true at s
-abbrev pub FormTrueAt : Stack → Form → Type 0
-FormTrueAt s f = IsTrueAt s (assertion f)
-
--- no number from 1 to m makes the minus-infinity form true
-abbrev pub NoneLow : Stack → ℕ → Form → ℕ → Type 0
-NoneLow s x f m = (j : ℕ) → 1 ≤ j → j ≤ m → ¬ (FormTrueAt s (low_case x f j))
-
--- no sum of b and a number from 1 to m makes the formula true
-abbrev pub NoneNear : Stack → ℕ → Form → ℕ → Lin → Type 0
-NoneNear s x f m b = (j : ℕ) → 1 ≤ j → j ≤ m → ¬ (FormTrueAt s (near_case x f b j))
 
 -- ---- the number that is low enough
 
@@ -72,6 +62,64 @@ abbrev pub low_value : ℕ → ℕ → Option ℤ → ℤ
 low_value m j None = pos j
 low_value m j (Some c) = c -ℤ pos (excess m j c)
 
+-- ---- the plain value
+
+-- the first of two values, or the second where it lacks
+abbrev pub or_else : Option ℤ → Option ℤ → Option ℤ
+or_else None b = b
+or_else (Some y) b = Some y
+
+-- the first value that there is at a number from 1 to m
+abbrev pub first_to : (ℕ → Option ℤ) → ℕ → Option ℤ
+first_to g zero = None
+first_to g (suc m) = or_else (first_to g m) (g (suc m))
+
+-- the first value that there is at a member of the list
+abbrev pub first_among : (Lin → Option ℤ) → List Lin → Option ℤ
+first_among g [] = None
+first_among g (b ∷ bs) = or_else (g b) (first_among g bs)
+
+-- y, if the formula is true at s
+abbrev pub value_if : Stack → Form → ℤ → Option ℤ
+value_if s f y = if evaluates_to s (assertion f) then Some y else None
+
+-- what b + j is worth, if the formula is true there
+abbrev pub near_at : Stack → ℕ → Form → Lin → ℕ → Option ℤ
+near_at s x f b j = value_if s (near_case x f b j) (value s (plus b (number (pos j))))
+
+-- the first sum of b and a number from 1 to m that works
+abbrev pub first_near_bound : Stack → ℕ → Form → ℕ → Lin → Option ℤ
+first_near_bound s x f m b = first_to (near_at s x f b) m
+
+-- the first that works, bound by bound
+abbrev pub first_near : Stack → ℕ → Form → ℕ → List Lin → Option ℤ
+first_near s x f m bs = first_among (first_near_bound s x f m) bs
+
+-- the low number of j, if the minus-infinity form is true at j
+abbrev pub low_at : Stack → ℕ → Form → ℕ → ℕ → Option ℤ
+low_at s x f m j = value_if s (low_case x f j) (low_value m j (least_limit s x f None))
+
+-- that of the first number from 1 to m that works
+abbrev pub first_low : Stack → ℕ → Form → ℕ → Option ℤ
+first_low s x f m = first_to (low_at s x f m) m
+
+-- the first that works of the sums of the bounds and the numbers from 1 to m, or else the low number
+abbrev pub first_value : Stack → ℕ → Form → ℕ → List Lin → Option ℤ
+first_value s x f m bs = or_else (first_near s x f m bs) (first_low s x f m)
+
+-- the plain value of x after the second stage
+abbrev pub plain_multiple : Stack → ℕ → Form → Option ℤ
+plain_multiple s x f = first_value s x f (period x f 1) (distinct_bounds x f)
+
+-- a value divided by l
+abbrev pub divided : ℕ → Option ℤ → Option ℤ
+divided l None = None
+divided l (Some y) = Some (int_div y (pos l))
+
+-- the plain value of x
+abbrev pub plain_value : Stack → Var → Assertion → Option ℤ
+plain_value s x p = divided (multiplier (place x) (evaluate (normal_form p)) 1) (plain_multiple s (place x) (evaluate (scaled_form x p)))
+
 -- ---- width
 
 -- a partial sum of r, or the limit, passes 128 bits
@@ -92,18 +140,18 @@ HasWideLimit s x (disjunction f g) = HasWideLimit s x f ⊎ HasWideLimit s x g
 abbrev pub HasWideNear : Stack → ℕ → Form → Lin → ℕ → Type 0
 HasWideNear s x f b j = (¬ (SumFits s (plus b (number (pos j))))) ⊎ (¬ (NumbersFit s (assertion (near_case x f b j))))
 
--- the minus-infinity form at j has a partial sum past 128 bits, or it is true and a limit or the low number passes them
-abbrev pub HasWideLow : Stack → ℕ → Form → ℕ → ℕ → Type 0
-HasWideLow s x f m j =
-    (¬ (NumbersFit s (assertion (low_case x f j))))
-    ⊎ (FormTrueAt s (low_case x f j) × (HasWideLimit s x f ⊎ (¬ (FitsSigned w128 (low_value m j (least_limit s x f None))))))
+-- a low number is there, and it or a limit passes 128 bits
+abbrev pub IsWideLow : Stack → ℕ → Form → Option ℤ → Type 0
+IsWideLow s x f o = (y : ℤ) × ((o ≡ Some y) × ((¬ (FitsSigned w128 y)) ⊎ HasWideLimit s x f))
 
--- a number of the search in a formula after the second stage passes 128 bits
+-- a sum b + j or the formula there has a partial sum past 128 bits, or no such sum works and
+-- the minus-infinity form at a number has one, or the first low number passes 128 bits
 abbrev pub HasWideSearch : Stack → ℕ → Form → Type 0
 HasWideSearch s x f =
     ((b : Lin) × (Contains (distinct_bounds x f) b × ((j : ℕ) × ((1 ≤ j) × (j ≤ period x f 1) × HasWideNear s x f b j))))
-    ⊎ ((j : ℕ) × ((1 ≤ j) × (j ≤ period x f 1) × HasWideLow s x f (period x f 1) j))
+    ⊎ ((first_near s x f (period x f 1) (distinct_bounds x f) ≡ None)
+    × (((j : ℕ) × ((1 ≤ j) × (j ≤ period x f 1) × (¬ (NumbersFit s (assertion (low_case x f j)))))) ⊎ IsWideLow s x f (first_low s x f (period x f 1))))
 
--- at s, a partial sum of the third stage or the value of x passes 128 bits
+-- at s, a partial sum of the third stage or the plain value of x passes 128 bits
 abbrev pub PassesValues : Stack → Var → Assertion → Type 0
 PassesValues s x p = HasWideSearch s (place x) (evaluate (scaled_form x p))

@@ -1,5 +1,8 @@
 use Rattle.std.proofs.Common.{◌≡◌, map, take}
+use Rattle.std.specs.List.{Contains}
+use Rattle.hs_elimination.specs.Form.{IsWide}
 use Rattle.hs_elimination.specs.Normal.{evaluate}
+use Rattle.hs_cooper.specs.declared.nnf.Nnf.{Nnf}
 use Rattle.hs_cooper.specs.Reading.{form_of, joined}
 use Rattle.hs_cooper.specs.Gathering.{gathered, HasProper}
 use Rattle.hs_cooper.specs.Changing.{changed}
@@ -10,4 +13,5 @@ invariant-apply_all-loop-f l = record {
   same : l.members.connective ≡ l.fn.connective;
   form : gathered l.members ≡ joined l.fn.connective (map (λ f. evaluate (changed l.change (form_of f))) (take l.f-index l.fs));
   proper : HasProper l.members;
+  narrow : (f : Nnf) → Contains (take l.f-index l.fs) f → IsWide (changed l.change (form_of f)) → IsWide (form_of f);
 }

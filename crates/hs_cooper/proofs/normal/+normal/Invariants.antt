@@ -1,4 +1,7 @@
 use Rattle.std.proofs.Common.{◌≡◌, map, take}
+use Rattle.std.specs.List.{Contains}
+use Rattle.hs_pure.specs.declared.pure.Pure.{Pure}
+use Rattle.hs_elimination.specs.Form.{IsWide}
 use Rattle.hs_elimination.specs.Normal.{evaluate}
 use Rattle.hs_cooper.specs.Reading.{joined}
 use Rattle.hs_cooper.specs.Gathering.{gathered, HasProper}
@@ -10,4 +13,5 @@ invariant-normalize_all-loop-p l = record {
   same : l.members.connective ≡ side l.positive l.fn.connective;
   form : gathered l.members ≡ joined (side l.positive l.fn.connective) (map (λ p. evaluate (first_stage l.positive p)) (take l.p-index l.ps));
   proper : HasProper l.members;
+  narrow : (p : Pure) → Contains (take l.p-index l.ps) p → ¬ (IsWide (first_stage l.positive p));
 }

@@ -1,9 +1,9 @@
-use Rattle.std.proofs.Common.{ℕ, ◌≤◌, ◌<◌}
+use Rattle.std.proofs.Common.{◌≡◌, ◌-◌, None}
 use Rattle.hs_pure.specs.Eval.{stack_of}
 use Rattle.hs_elimination.specs.Linear.{place}
-use Rattle.hs_elimination.specs.Witness.{FormTrueAt, low_case}
+use Rattle.hs_elimination.specs.Witness.{first_to, low_at}
 use Rattle.hs_cooper.specs.Reading.{form_of}
 use Rattle.hs_cooper.proofs.search.low.Given as goal
 
 abbrev pub invariant-loop-j : goal.invariant-loop-j
-invariant-loop-j l = (i : ℕ) → 1 ≤ i → i < l.j → ¬ (FormTrueAt (stack_of l.v) (low_case (place l.x) (form_of l.f) i))
+invariant-loop-j l = first_to (low_at (stack_of l.v) (place l.x) (form_of l.f) l.period) (l.j - 1) ≡ None

@@ -6,7 +6,9 @@ use Rattle.hs_pure.specs.declared.lin.Lin.{Lin}
 use Rattle.hs_cooper.specs.Reading.{form_of}
 use Rattle.hs_cooper.specs.Bounding.{denied_bounds}
 use Rattle.hs_cooper.proofs.Thirds.{long_period, bounds_over, total_is, not_above, wide-bound, bounds-are, wide_given}
+use Rattle.hs_cooper.proofs.Narrow.{narrow_bounds}
 use Rattle.hs_cooper.proofs.third.count_cases.Goals as goal
+use Rattle.hs_cooper.proofs.Narrow.{narrow_bounds}
 use Rattle.hs_cooper.proofs.third.count_cases.Goals.{then-atoms-eq0, else-atoms-eq0}
 
 pub returns-in_default-clause-atoms : goal.returns-in_default-clause-atoms
@@ -45,3 +47,6 @@ returns-clause-within c =
     subst (λ n. n ≤ c.args.budget) (total_is c.args.x (form_of c.args.f.now) c.args.budget c.in-Some.period c.count_low.result c.count_atoms-atoms.result c.len.result c.join_bounds.new.done
     c.in-Some.ensures.value.value c.count_low.ensures c.count_atoms-atoms.ensures c.len.ensures (rw c.new-denied.ensures at c.in_ok-join_bounds.ensures.list) c.requires.within)
     (not_above c.exceeds.result c.args.budget _ c.exceeds.ensures c.if-exceeds.false)
+
+pub returns-clause-narrow : goal.returns-clause-narrow
+returns-clause-narrow c = narrow_bounds c.in_ok-bounds.bounds c.as_slice.result.now c.in_ok-bounds.ensures.sums c.in_ok-bounds.ensures.narrow

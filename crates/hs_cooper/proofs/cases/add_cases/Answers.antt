@@ -1,0 +1,35 @@
+use Rattle.std.proofs.Common.{ap, ◌∙◌, ◌⊎◌, pos}
+use Rattle.hs_elimination.specs.Linear.{place, plus, number, IsWideLin}
+use Rattle.hs_elimination.specs.Form.{IsWide}
+use Rattle.hs_elimination.specs.Normal.{evaluate}
+use Rattle.hs_elimination.specs.Cases.{substitute, minus_infinity}
+use Rattle.hs_cooper.specs.Reading.{form_of, join}
+use Rattle.hs_cooper.specs.Gathering.{gathered}
+use Rattle.hs_cooper.specs.Changing.{changed}
+use Rattle.hs_cooper.specs.declared.change.Change.TheVariants.{Substitute}
+use Rattle.hs_cooper.specs.declared.nnf.Connective.TheVariants.{Or}
+use Rattle.hs_cooper.proofs.Members.{each_more, each_whole}
+use Rattle.hs_cooper.proofs.Changes.{fold_next}
+use Rattle.hs_cooper.proofs.Narrow.{narrow_case, narrow_at}
+use Rattle.hs_cooper.proofs.cases.add_cases.Goals as goal
+
+pub loop-b-preserved : goal.loop-b-preserved
+loop-b-preserved c = record {
+  same = c.in_ok-add-2.ensures.same ∙ c.loop-b.invariant.same;
+  form = fold_next Or c.loop-b.members.connective
+      (join Or (gathered c.args.members.now) (evaluate (substitute (place c.args.x) (number (pos c.args.j)) (minus_infinity (place c.args.x) (form_of c.args.f.now)))))
+      (λ b. evaluate (substitute (place c.args.x) (plus b (number (pos c.args.j))) (form_of c.args.f.now))) c.args.bounds.now c.loop-b.b-index c.b-item.result
+      (gathered c.loop-b.members) (gathered c.add-in-loop-b.new.self) (form_of c.in_ok-near.near)
+      c.loop-b-test.true c.b-item.is c.loop-b.invariant.form c.loop-b.invariant.same c.in_ok-add-2.ensures.form
+      (c.in_ok-near.ensures.form ∙ ap (λ u. evaluate (substitute (place c.args.x) u (form_of c.args.f.now))) c.in_ok-sum.ensures.sum);
+  proper = c.in_ok-add-2.ensures.proper;
+  narrow = each_more (λ b. IsWideLin (plus b (number (pos c.args.j))) ⊎ IsWide (changed (Substitute c.args.x (plus b (number (pos c.args.j)))) (form_of c.args.f.now)) → IsWide (form_of c.args.f.now) ⊎ IsWideLin b)
+      c.args.bounds.now c.loop-b.b-index c.b-item.result c.loop-b-test.true c.b-item.is c.loop-b.invariant.narrow
+      (narrow_case c.args.x (form_of c.args.f.now) c.b-item.result c.in_ok-sum.sum c.args.j c.in_ok-sum.ensures.sum c.in_ok-sum.ensures.narrow c.in_ok-near.ensures.narrow);
+}
+
+pub returns-clause-narrow : goal.returns-clause-narrow
+returns-clause-narrow c =
+    narrow_at c.args.x (form_of c.args.f.now) c.args.bounds.now c.args.j c.in_ok-low.ensures.narrow
+    (each_whole (λ b. IsWideLin (plus b (number (pos c.args.j))) ⊎ IsWide (changed (Substitute c.args.x (plus b (number (pos c.args.j)))) (form_of c.args.f.now)) → IsWide (form_of c.args.f.now) ⊎ IsWideLin b)
+    c.args.bounds.now c.loop-b.b-index c.loop-b-test.false c.loop-b.invariant.narrow)
