@@ -1,0 +1,100 @@
+//! Questions and their answers.
+
+ghost use Rattle.std.specs.Prelude.{◌≡◌, ◌≤◌, ◌<◌, ◌^◌, false, IfOk, IfSome, None, IsErrOf};
+ghost use Rattle.hs_pure.specs.Assertion.{assertion_of, truth, negation};
+ghost use Rattle.hs_pure.specs.Eval.{stack_of};
+ghost use Rattle.hs_pure.specs.Occurs.{has_bags};
+ghost use Rattle.hs_pure.specs.Stack.{Stack};
+ghost use Rattle.hs_pure.specs.Sums.{IsOrdered};
+ghost use Rattle.hs_pure.specs.Truth.{TrueAt};
+ghost use Rattle.hs_cooper.specs.declared.stop.Stop.TheVariants as stop;
+ghost use Rattle.hs_decide.specs.Question.{question};
+ghost use Rattle.hs_decide.specs.Size.{size_of};
+ghost use Rattle.hs_decide.specs.Span.{SpanIsWide, IsSpent};
+ghost use Rattle.hs_decide.specs.Answering.{IfNo, IsDecided};
+ghost use Rattle.hs_decide.specs.declared.answer.Answer.TheVariants.{Yes, Atoms, Wide};
+
+use crate::Answer;
+use crate::formula::counterexample;
+use crate::quantifiers::without_quantifiers;
+use crate::solve::solve;
+use crate::variables::free_variables;
+use hs_cooper::Stop;
+use hs_pure::{NoMemory, Pure, Valuation};
+use sqlite_items::Items;
+use std::alloc::Global;
+
+// Values that make the question true, or none where no stack does.
+fn solution(alloc: Global, question: &Pure, atoms: u64) -> Result<Option<Valuation>, Stop>
+    requires no_bags { has_bags question.now ≡ false }
+    requires ordered { IsOrdered question.now }
+    requires small { atoms ≤ 2 ^ 30 }
+    ensures found { IfOk result (λ o. IfSome o (λ v. TrueAt (stack_of v) question.now)) }
+    ensures none { IfOk result (λ o. o ≡ None → (s : Stack) → ¬ (TrueAt s question.now)) }
+    ensures atoms { IsErrOf result stop.Atoms → atoms < size_of (assertion_of question.now) }
+    ensures wide { IsErrOf result stop.Wide → SpanIsWide (assertion_of question.now) }
+{
+    let plain = without_quantifiers(alloc, question, atoms)?;
+    let Ok(variables) = free_variables(alloc, question) else {
+        return Err(Stop::Memory);
+    };
+    solve(alloc, variables.as_slice(), &plain, atoms)
+}
+
+// The answer to a question.
+fn answer(alloc: Global, question: &Pure, atoms: u64) -> Result<Answer, NoMemory>
+    requires no_bags { has_bags question.now ≡ false }
+    requires ordered { IsOrdered question.now }
+    requires small { atoms ≤ 2 ^ 30 }
+    ensures yes { IfOk result (λ r. r ≡ Yes → (s : Stack) → ¬ (TrueAt s question.now)) }
+    ensures no { IfOk result (λ r. IfNo r (λ v. TrueAt (stack_of v) question.now)) }
+    ensures atoms { IfOk result (λ r. r ≡ Atoms → atoms < size_of (assertion_of question.now)) }
+    ensures wide { IfOk result (λ r. r ≡ Wide → SpanIsWide (assertion_of question.now)) }
+    ensures decided { IfOk result (λ r. (¬ (IsSpent atoms (assertion_of question.now))) → IsDecided r) }
+{
+    match solution(alloc, question, atoms) {
+        Ok(Some(v)) => Ok(Answer::No(v)),
+        Ok(None) => Ok(Answer::Yes),
+        Err(Stop::Atoms) => Ok(Answer::Atoms),
+        Err(Stop::Wide) => Ok(Answer::Wide),
+        Err(Stop::Memory) => Err(NoMemory),
+    }
+}
+
+/// Whether `a` implies `b` at all stacks. Neither has bag literals, the terms of their sums are in order, and
+/// `atoms` is at most 2^30.
+///
+/// The question is `a` and not `b`. `Atoms` comes only where a stage of its plain decision has more than `atoms`
+/// atoms, and `Wide` only where a number of it passes 128 bits. `NoMemory` comes where there is none.
+pub fn implies(alloc: Global, a: &Pure, b: &Pure, atoms: u64) -> Result<Answer, NoMemory>
+    requires left_bags { has_bags a.now ≡ false }
+    requires right_bags { has_bags b.now ≡ false }
+    requires left_ordered { IsOrdered a.now }
+    requires right_ordered { IsOrdered b.now }
+    requires small { atoms ≤ 2 ^ 30 }
+    ensures yes { IfOk result (λ r. r ≡ Yes → (s : Stack) → TrueAt s a.now → TrueAt s b.now) }
+    ensures no { IfOk result (λ r. IfNo r (λ v. TrueAt (stack_of v) a.now × (¬ (TrueAt (stack_of v) b.now)))) }
+    ensures atoms { IfOk result (λ r. r ≡ Atoms → atoms < size_of (question (assertion_of a.now) (assertion_of b.now))) }
+    ensures wide { IfOk result (λ r. r ≡ Wide → SpanIsWide (question (assertion_of a.now) (assertion_of b.now))) }
+    ensures decided { IfOk result (λ r. (¬ (IsSpent atoms (question (assertion_of a.now) (assertion_of b.now)))) → IsDecided r) }
+{
+    let question = counterexample(alloc, a, b)?;
+    answer(alloc, &question, atoms)
+}
+
+/// Whether `a` is false at all stacks: whether it implies what is false. Conditions and stops are those of
+/// `implies`.
+pub fn unsat(alloc: Global, a: &Pure, atoms: u64) -> Result<Answer, NoMemory>
+    requires no_bags { has_bags a.now ≡ false }
+    requires ordered { IsOrdered a.now }
+    requires small { atoms ≤ 2 ^ 30 }
+    ensures yes { IfOk result (λ r. r ≡ Yes → (s : Stack) → ¬ (TrueAt s a.now)) }
+    ensures no { IfOk result (λ r. IfNo r (λ v. TrueAt (stack_of v) a.now)) }
+    ensures atoms { IfOk result (λ r. r ≡ Atoms → atoms < size_of (question (assertion_of a.now) (negation truth))) }
+    ensures wide { IfOk result (λ r. r ≡ Wide → SpanIsWide (question (assertion_of a.now) (negation truth))) }
+    ensures decided { IfOk result (λ r. (¬ (IsSpent atoms (question (assertion_of a.now) (negation truth)))) → IsDecided r) }
+{
+    let falsehood = Pure::Or(Items::new(alloc));
+    let question = counterexample(alloc, a, &falsehood)?;
+    answer(alloc, &question, atoms)
+}

@@ -1,0 +1,19 @@
+//! Implications of linear integer arithmetic, decided by plain elimination.
+//!
+//! `implies` answers `Yes` only where the implication is true at all stacks, and `No` only with values that make
+//! its left side true and its right side false. It stops for a question that is spent: one whose plain decision,
+//! as `specs/` has it, takes more atoms than are allowed, or a number past 128 bits.
+#![tactic(auto)]
+
+mod answer;
+mod decide;
+mod formula;
+mod laws;
+mod quantifiers;
+mod shared;
+mod solve;
+mod variables;
+
+pub use answer::Answer;
+pub use decide::{implies, unsat};
+pub use laws::{free_variables_are_free, free_variables_rise};
