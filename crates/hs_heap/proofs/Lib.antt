@@ -4,3 +4,9 @@ pub mod Agree
 pub mod Least
 pub mod Atoms
 pub mod Roots
+pub mod Tells
+pub mod Scopes
+pub mod Parts
+pub mod Lists
+pub mod Occurring
+pub mod Soundness

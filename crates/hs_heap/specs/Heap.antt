@@ -1,5 +1,5 @@
 -- Heaps and their disjoint union.
-use Rattle.std.specs.Prelude.{ℕ, ℤ, pos, ◌<ℤ◌, List, [], ◌∷◌}
+use Rattle.std.specs.Prelude.{ℤ, pos, ◌<ℤ◌, List, [], ◌∷◌}
 use Rattle.hs_heap.specs.declared.node.HeapNode.{HeapNode}
 
 -- a location with its node

@@ -1,6 +1,6 @@
 -- When a heap satisfies a formula.
-use Rattle.std.specs.Prelude.{◌≡◌, ℕ, zero, suc, ℤ, pos, ◌<ℤ◌, ◌⊎◌, Bool, true, false, if◌then◌else◌, ◌||◌, List, [], ◌∷◌, map, Option, Some, None, slice_get}
-use Rattle.hs_pure.specs.Multiset.{Multiset, nothing}
+use Rattle.std.specs.Prelude.{◌≡◌, ℕ, zero, suc, ℤ, pos, ◌<ℤ◌, ◌⊎◌, Bool, false, if◌then◌else◌, ◌||◌, List, [], ◌∷◌, map, Option, Some, None, slice_get}
+use Rattle.hs_pure.specs.Multiset.{Multiset}
 use Rattle.hs_pure.specs.Stack.{Value, Stack, same, with_value, number_value, bag_value}
 use Rattle.hs_pure.specs.Truth.{TrueAt}
 use Rattle.hs_pure.specs.declared.var.Var.{Var}

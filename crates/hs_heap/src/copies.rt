@@ -1,6 +1,6 @@
 ghost use Rattle.std.specs.Prelude.{◌≡◌, IfOk};
 
-use crate::definitions::{NodeDef, PredDef};
+use crate::definitions::{Lemma, NodeDef, PredDef};
 use crate::formula::{Atom, Disjunct};
 use hs_pure::{NoMemory, Pure};
 use hs_text::Text;
@@ -53,6 +53,16 @@ pub fn copy_preds(alloc: Global, preds: &[PredDef]) -> Result<Items<PredDef>, No
     let mut all = Items::new(alloc);
     for pred in preds {
         all.push(pred.copy(alloc)?)?;
+    }
+    Ok(all)
+}
+
+pub fn copy_lemmas(alloc: Global, lemmas: &[Lemma]) -> Result<Items<Lemma>, NoMemory>
+    ensures { IfOk result (λ all. all ≡ lemmas.now) }
+{
+    let mut all = Items::new(alloc);
+    for lemma in lemmas {
+        all.push(lemma.copy(alloc)?)?;
     }
     Ok(all)
 }

@@ -1,7 +1,7 @@
 ghost use Rattle.std.specs.Prelude.{◌≡◌, IfOk};
 
-use crate::copies::{copy_fields, copy_nodes, copy_preds};
-use crate::formula::Formula;
+use crate::copies::{copy_fields, copy_lemmas, copy_nodes, copy_preds};
+use crate::formula::{Disjunct, Formula};
 use hs_pure::{NoMemory, Pure, Var};
 use hs_text::Text;
 use sqlite_items::Items;
@@ -51,11 +51,39 @@ impl PredDef {
     }
 }
 
-/// The data types and the predicates of a source, each by number from 1.
+/// A lemma: what a predicate says of a heap entails its right side. `self` and the parameters are numbered as
+/// those of a predicate, and all numbers are below `next`.
+#[derive(Debug, Drop)]
+pub struct Lemma {
+    pub name: Text,
+    /// By number from 1.
+    pub pred: u32,
+    pub params: Items<Var>,
+    pub right: Disjunct,
+    pub next: u32,
+}
+
+impl Lemma {
+    /// An equal lemma.
+    pub fn copy(&self, alloc: Global) -> Result<Lemma, NoMemory>
+        ensures { IfOk result (λ l. l ≡ self.now) }
+    {
+        Ok(Lemma {
+            name: self.name.copy(alloc)?,
+            pred: self.pred,
+            params: Items::from_slice(alloc, self.params.as_slice())?,
+            right: self.right.copy(alloc)?,
+            next: self.next,
+        })
+    }
+}
+
+/// The data types, the predicates and the lemmas of a source, each by number from 1.
 #[derive(Debug, Drop)]
 pub struct Defs {
     pub nodes: Items<NodeDef>,
     pub preds: Items<PredDef>,
+    pub lemmas: Items<Lemma>,
 }
 
 impl Defs {
@@ -66,6 +94,7 @@ impl Defs {
         Ok(Defs {
             nodes: copy_nodes(alloc, self.nodes.as_slice())?,
             preds: copy_preds(alloc, self.preds.as_slice())?,
+            lemmas: copy_lemmas(alloc, self.lemmas.as_slice())?,
         })
     }
 }

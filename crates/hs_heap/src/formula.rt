@@ -1,6 +1,10 @@
 ghost use Rattle.std.specs.Prelude.{◌≡◌, IfOk};
+ghost use Rattle.std.specs.List.{list_any};
+ghost use Rattle.hs_pure.specs.Occurs.{is_free};
+ghost use Rattle.hs_heap.specs.Variables.{in_atom, is_free_in_disjunct, is_free_in_formula};
 
 use crate::copies::{copy_atoms, copy_cases, copy_conjuncts};
+use crate::scope::is_listed;
 use hs_pure::{NoMemory, Pure, Var};
 use sqlite_items::Items;
 use std::alloc::Global;
@@ -31,6 +35,13 @@ impl Atom {
             args: Items::from_slice(alloc, self.args.as_slice())?,
         })
     }
+
+    // Whether `v` is the root or an argument.
+    pub(crate) fn has(&self, v: Var) -> bool
+        ensures { result ≡ in_atom v self.now }
+    {
+        v == self.root || is_listed(self.args.as_slice(), v)
+    }
 }
 
 /// Atoms that share no node, and conjuncts, for some values of the bound variables. No conjunct is an `And`.
@@ -52,6 +63,27 @@ impl Disjunct {
             pure: copy_conjuncts(alloc, self.pure.as_slice())?,
         })
     }
+
+    /// Whether `v` occurs free. The variables that the disjunct binds are not free in it. It takes no memory.
+    pub fn has(&self, v: Var) -> bool
+        ensures { result ≡ is_free_in_disjunct v self.now }
+    {
+        !is_listed(self.bound.as_slice(), v)
+            && (some_atom_has(self.atoms.as_slice(), v)
+                || some_conjunct_has(self.pure.as_slice(), v))
+    }
+}
+
+fn some_atom_has(atoms: &[Atom], v: Var) -> bool
+    ensures { result ≡ list_any (in_atom v) atoms.now }
+{
+    atoms.iter().any(|a| a.has(v))
+}
+
+fn some_conjunct_has(ps: &[Pure], v: Var) -> bool
+    ensures { result ≡ list_any (is_free v) ps.now }
+{
+    ps.iter().any(|p| p.has(v))
 }
 
 /// A disjunction. Without disjuncts it holds of no heap.
@@ -68,5 +100,12 @@ impl Formula {
         Ok(Formula {
             cases: copy_cases(alloc, self.cases.as_slice())?,
         })
+    }
+
+    /// Whether `v` occurs free in a disjunct. It takes no memory.
+    pub fn has(&self, v: Var) -> bool
+        ensures { result ≡ is_free_in_formula v self.now }
+    {
+        self.cases.as_slice().iter().any(|d| d.has(v))
     }
 }

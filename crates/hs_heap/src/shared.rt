@@ -1,4 +1,4 @@
-use crate::{Atom, Defs, Disjunct, Formula, HeapNode, NodeDef, Of, PredDef};
+use crate::{Atom, Defs, Disjunct, Formula, HeapNode, Lemma, NodeDef, Of, PredDef};
 
 fn is_shared<T: Send + Sync>() {}
 
@@ -10,6 +10,7 @@ fn formulas_are_shared() {
     is_shared::<Formula>();
     is_shared::<NodeDef>();
     is_shared::<PredDef>();
+    is_shared::<Lemma>();
     is_shared::<Defs>();
     is_shared::<HeapNode>();
 }

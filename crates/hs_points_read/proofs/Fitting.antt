@@ -70,7 +70,7 @@ find-get n [] name found e = absurd cc
 find-get n (d ∷ ds) name found e = find_here n d ds name found (bytes_eq d.name name) e (λ more. find-get (n + 1) ds name found more)
 
 abbrev nodes_of : List Data → Defs
-nodes_of ds = record { nodes = map (node_of ds) ds; preds = [] }
+nodes_of ds = record { nodes = map (node_of ds) ds; preds = []; lemmas = [] }
 
 of_fits : (ds : List Data) (a : PointsTo) (arity : ℕ) → arity ≡ length a.args → AtomIsSound ds a → OfFits (nodes_of ds) arity (Node (data_number ds a.node))
 of_fits ds a arity is h =

@@ -44,7 +44,7 @@ abbrev pub node_of : List Data → Data → NodeDef
 node_of ds d = record { name = d.name; fields = map (λ (f : Field). (f.name, target ds f.kind)) d.fields }
 
 abbrev pub defs_of : Source → Defs
-defs_of source = record { nodes = map (node_of (data_types source)) (data_types source); preds = [] }
+defs_of source = record { nodes = map (node_of (data_types source)) (data_types source); preds = []; lemmas = [] }
 
 -- ---- claims
 

@@ -321,6 +321,7 @@ pub fn resolve(alloc: Global, source: &Source) -> Result<Resolved, ReadError>
         defs: Defs {
             nodes,
             preds: Items::new(alloc),
+            lemmas: Items::new(alloc),
         },
         claims,
     })

@@ -46,7 +46,11 @@ fn defs(alloc: Global) -> Result<Defs, AllocError> {
         inv: Pure::And(Items::new(alloc)),
         next: 3,
     })?;
-    Ok(Defs { nodes, preds })
+    Ok(Defs {
+        nodes,
+        preds,
+        lemmas: Items::new(alloc),
+    })
 }
 
 #[test]

@@ -1,0 +1,46 @@
+-- What occurs in a formula is free or bound there.
+use Rattle.std.proofs.Common.{◌≡◌, Bool, true, false, not, ◌&&◌, ◌||◌, refl, sym, ap, ◌∙◌}
+use Rattle.hs_pure.specs.declared.var.Var.{Var}
+use Rattle.hs_pure.specs.declared.pure.Pure.{Pure}
+use Rattle.hs_pure.specs.Stack.{same}
+use Rattle.hs_pure.specs.Assertion.{Assertion, truth, eq, lt, le, divides, bag_eq, subset, member, all_of, negation, both, either, exists, forall, assertion_of}
+use Rattle.hs_pure.specs.Occurs.{in_lin, is_free, is_bound, occurs}
+use Rattle.hs_pure.specs.Mirror.{in_bag_term, is_free_in, is_bound_in, occurs_in}
+use Rattle.hs_pure.proofs.Mirrored.{is_free-is, is_bound-is, occurs-is}
+
+none : (b : Bool) → b ≡ (b || false)
+none true = refl
+none false = refl
+
+two : (f b g c : Bool) → ((f || b) || (g || c)) ≡ ((f || g) || (b || c))
+two true b g c = refl
+two false true true c = refl
+two false true false c = refl
+two false false true c = refl
+two false false false c = refl
+
+under : (m s f b : Bool) → (m || (s || (f || b))) ≡ ((m || (not s && f)) || (s || b))
+under true s f b = refl
+under false true f b = refl
+under false false true b = refl
+under false false false b = refl
+
+module _ (v : Var) where
+  splits : (p : Assertion) → occurs_in v p ≡ (is_free_in v p || is_bound_in v p)
+  splits truth = refl
+  splits (eq a b) = none (in_lin v a || in_lin v b)
+  splits (lt a b) = none (in_lin v a || in_lin v b)
+  splits (le a b) = none (in_lin v a || in_lin v b)
+  splits (divides d a) = none (in_lin v a)
+  splits (bag_eq a b) = none (in_bag_term v a || in_bag_term v b)
+  splits (subset a b) = none (in_bag_term v a || in_bag_term v b)
+  splits (member a b) = none (in_lin v a || in_bag_term v b)
+  splits (all_of u b p) = ap (λ o. in_bag_term v b || (same u v || o)) (splits p) ∙ under (in_bag_term v b) (same u v) (is_free_in v p) (is_bound_in v p)
+  splits (negation p) = splits p
+  splits (both p q) = (λ i. splits p i || splits q i) ∙ two (is_free_in v p) (is_bound_in v p) (is_free_in v q) (is_bound_in v q)
+  splits (either p q) = (λ i. splits p i || splits q i) ∙ two (is_free_in v p) (is_bound_in v p) (is_free_in v q) (is_bound_in v q)
+  splits (exists u p) = ap (λ o. same u v || o) (splits p) ∙ under false (same u v) (is_free_in v p) (is_bound_in v p)
+  splits (forall u p) = ap (λ o. same u v || o) (splits p) ∙ under false (same u v) (is_free_in v p) (is_bound_in v p)
+
+  pub occurs-splits : (p : Pure) → occurs v p ≡ (is_free v p || is_bound v p)
+  occurs-splits p = occurs-is v p ∙ splits (assertion_of p) ∙ (λ i. sym (is_free-is v p) i || sym (is_bound-is v p) i)
