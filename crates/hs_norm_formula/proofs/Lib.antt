@@ -1,0 +1,9 @@
+pub mod Adding
+pub mod Builders
+pub mod Counts
+pub mod Few
+pub mod FewItems
+pub mod Light
+pub mod Order
+pub mod Splicing
+pub mod Tables
