@@ -1,0 +1,41 @@
+-- The command that the words of a command line are read as.
+use Rattle.std.specs.Prelude.{[], ◌∷◌, Some, true, false, codes, pos}
+use Rattle.clap.specs.Words.{App, Rule, Shape, Text, new_rule}
+use Rattle.clap.specs.Simple.{new_shape}
+use Rattle.clap.specs.declared.builder.ArgAction.TheVariants.{Set}
+use Rattle.clap.specs.declared.builder.ValueParser.{ValueParser}
+use Rattle.clap.specs.declared.builder.ValueParser.TheVariants.{Signed, Unsigned}
+
+-- the positional FILE, which must be there
+abbrev pub file_rule : Rule
+file_rule = record (new_rule (codes "file")) { required = true; action = Some Set }
+
+-- the option `--name`, used once at most, with one value that passes the parser
+abbrev pub option_rule : Text → ValueParser → Rule
+option_rule name parser =
+    record (new_rule name) { long = Some name; action = Some Set; parser = Some parser }
+
+-- `sleek` with its arguments, each number in its range
+abbrev pub sleek_shape : Shape
+sleek_shape = record (new_shape (codes "sleek")) {
+  rules = file_rule
+      ∷ option_rule (codes "rank") (Signed (pos 0) (pos 64))
+      ∷ option_rule (codes "goals") (Unsigned 1 200000)
+      ∷ option_rule (codes "atoms") (Unsigned 1 2000000)
+      ∷ option_rule (codes "xpure") (Signed (pos 0) (pos 3))
+      ∷ option_rule (codes "residues") (Signed (pos 1) (pos 16))
+      ∷ [];
+}
+
+-- `hipsleek`, which must have a subcommand; its words begin after the program's name
+abbrev pub hipsleek_shape : Shape
+hipsleek_shape = record (new_shape (codes "hipsleek")) {
+  is_leaf = false;
+  no_binary_name = true;
+  subcommand_required = true;
+  disable_help_subcommand = true;
+}
+
+-- the command with its subcommands
+abbrev pub hipsleek_app : App
+hipsleek_app = record { top = hipsleek_shape; subs = sleek_shape ∷ [] }

@@ -1,0 +1,72 @@
+-- The job that the matches of the command name.
+use Rattle.std.specs.Prelude.{◌≡◌, ◌<◌, ◌≤◌, ◌^◌, ℕ, List, Option, Some, None, if◌then◌else◌, codes}
+use Rattle.std.specs.Prelude.{option_and_then, option_map}
+use Rattle.std.specs.Option.{option_map_or}
+use Rattle.std.specs.Str.{bytes_eq}
+use Rattle.std.specs.Str.Parse.{IsNumeral, digits_value, without_leading_plus}
+use Rattle.clap.specs.Words.{Row, Text, first_of, one_of}
+use Rattle.hs_cli.specs.declared.jobs.Job.{Job}
+use Rattle.hs_cli.specs.declared.jobs.Job.TheVariants.{Sleek}
+use Rattle.hs_cli.specs.declared.jobs.Options.{Options}
+
+-- the number that the digits of a text write, where a plus may stand first
+abbrev pub number_in : Text → ℕ
+number_in text = digits_value 10 (without_leading_plus text)
+
+-- the number in the value of an option, or the default where the option is not used
+abbrev pub number_or : ℕ → Option Text → ℕ
+number_or default value = option_map_or number_in value default
+
+-- the options that the rows of `sleek` give
+abbrev pub options_of : List Row → Options
+options_of rows = record {
+  rank = number_or 12 (one_of (codes "rank") rows);
+  goals = number_or 20000 (one_of (codes "goals") rows);
+  atoms = number_or 200000 (one_of (codes "atoms") rows);
+  level = number_or 1 (one_of (codes "xpure") rows);
+  residues = number_or 4 (one_of (codes "residues") rows);
+  pieces = 1;
+  steps = 1000;
+}
+
+-- the job that the rows of `sleek` name
+abbrev pub sleek_job_of : List Row → Option Job
+sleek_job_of rows =
+    option_map (λ file. Sleek file (options_of rows)) (first_of (codes "file") rows)
+
+-- the job that the rows of a subcommand name
+abbrev pub named_job : Text × List Row → Option Job
+named_job p = if bytes_eq p.0 (codes "sleek") then sleek_job_of p.1 else None
+
+-- the job that the matches of the subcommand name
+abbrev pub job_of : Option (Text × List Row) → Option Job
+job_of = option_and_then named_job
+
+-- the number is from low to high
+abbrev pub IsWithin : ℕ → ℕ → ℕ → Type 0
+IsWithin low high n = (low ≤ n) × (n ≤ high)
+
+-- each limit lies in its range
+pub record AreInRange (o : Options) : Type 0 where
+  pub rank : IsWithin 0 64 o.rank
+  pub goals : IsWithin 1 200000 o.goals
+  pub atoms : IsWithin 1 2000000 o.atoms
+  pub level : IsWithin 0 3 o.level
+  pub residues : IsWithin 1 16 o.residues
+  pub pieces : IsWithin 1 64 o.pieces
+  pub steps : IsWithin 0 1000000 o.steps
+
+-- each limit of the job lies in its range
+abbrev pub IsInRange : Job → Type 0
+IsInRange (Sleek file options) = AreInRange options
+
+-- the value of an option, where it is used, is a number of so many bits
+abbrev pub HasNumber : ℕ → Text → List Row → Type 0
+HasNumber bits id rows = (text : Text) → one_of id rows ≡ Some text
+    → IsNumeral 10 (without_leading_plus text) × (number_in text < 2 ^ bits)
+
+-- the values of the options are numbers of their types
+abbrev pub HasNumbers : List Row → Type 0
+HasNumbers rows = HasNumber 32 (codes "rank") rows × HasNumber 64 (codes "goals") rows
+    × HasNumber 64 (codes "atoms") rows × HasNumber 32 (codes "xpure") rows
+    × HasNumber 32 (codes "residues") rows

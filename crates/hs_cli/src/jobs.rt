@@ -1,0 +1,28 @@
+//! The jobs.
+
+use hs_text::Text;
+
+/// The limits of a job.
+#[derive(Clone, Copy, Debug, PartialEq, Eq)]
+pub struct Options {
+    /// The depth to which a derivation may unfold, 0 to 64.
+    pub rank: u32,
+    /// The goals that a search may open, 1 to 200000.
+    pub goals: u64,
+    /// The atoms that a formula may have, 1 to 2000000.
+    pub atoms: u64,
+    /// The level of the pure approximation of a predicate, 0 to 3.
+    pub level: u32,
+    /// The residues that are kept for a goal, 1 to 16.
+    pub residues: u32,
+    /// The pieces that a derivation is cut into, 1 to 64.
+    pub pieces: u32,
+    /// The steps that a run may take, 0 to 1000000.
+    pub steps: u64,
+}
+
+#[derive(Debug, Drop)]
+pub enum Job {
+    /// To prove the entailments of the file of this name.
+    Sleek(Text, Options),
+}
