@@ -1,0 +1,4 @@
+pub mod Builders
+pub mod Directories
+pub mod Lists
+pub mod Stages
