@@ -1,0 +1,12 @@
+pub mod Arguments
+pub mod Cases
+pub mod Counted
+pub mod Expressions
+pub mod Formed
+pub mod Items
+pub mod Keeps
+pub mod Names
+pub mod Settled
+pub mod Spliced
+pub mod State
+pub mod Sums

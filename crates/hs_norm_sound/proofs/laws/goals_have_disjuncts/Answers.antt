@@ -1,0 +1,9 @@
+use Rattle.hs_formula_fits.proofs.Cases.{formulas_fit}
+use Rattle.hs_norm_sound.proofs.Grows.{faults_stay}
+use Rattle.hs_norm_sound.proofs.Source.{source_built}
+use Rattle.hs_norm_sound.proofs.Claims.{entailments_written}
+use Rattle.hs_norm_sound.proofs.Written.{entails_written}
+use Rattle.hs_norm_sound.proofs.laws.goals_have_disjuncts.Goals as goal
+
+pub returns : goal.returns
+returns c = λ source r written e. entailments_written formulas_fit faults_stay source.items r (source_built faults_stay source r e) (entails_written source written)
