@@ -1,0 +1,13 @@
+pub mod Pieces
+pub mod Segments
+pub mod Tokens
+pub mod Words
+pub mod Sums
+pub mod Bags
+pub mod Places
+pub mod Members
+pub mod Pures
+pub mod Lists
+pub mod Formulas
+pub mod Whole
+pub mod Back
