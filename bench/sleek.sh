@@ -35,6 +35,18 @@ blanks() { # blanks BYTES: blanks and comments alone
   head -c "$1" < <(yes '  // nothing but a comment')
 }
 
+resolved() { # resolved COUNT: so many entailments of predicates, a quarter as many predicates; not served yet
+  echo "$node"
+  for k in $(seq $(($1 / 4))); do
+    echo "pred p$k<n, S> == self = null & n = 0 & S = {} or exists v, q, m, T." \
+      "self::node<v, q> * q::p$k<m, T> & n = m + 1 & S = union(T, {v}) inv n >= 0;"
+  done
+  side='emp'
+  for i in $(seq 12); do side="x$i::PRED<n$i + 1, union(S$i, {a$i})> * $side"; done
+  side=${side% * emp}
+  for k in $(seq "$1"); do echo "entail $side |- $side;" | sed "s/PRED/p$((k % ($1 / 4) + 1))/g"; done
+}
+
 measure() { # measure NAME: times the program on the file NAME
   /usr/bin/env TIMEFORMAT=%R bash -c "time '$program' sleek '$1' > out" 2> seconds || true
   peak=$( (command -v /usr/bin/time > /dev/null && /usr/bin/time -f %M "$program" sleek "$1" 2>&1 > /dev/null | tail -n 1) || echo 0)
@@ -46,3 +58,4 @@ for count in 64 256 1024; do claims $count > claims-$count; measure claims-$coun
 for count in 16 64; do chain $count > chain-$count; measure chain-$count; done
 for count in 1000 10000 36000; do equations $count > equations-$count; measure equations-$count; done
 for bytes in 262144 1048576; do blanks $bytes > blanks-$bytes; measure blanks-$bytes; done
+for count in 64 256 1024; do resolved $count > resolved-$count; measure resolved-$count; done

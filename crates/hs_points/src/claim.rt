@@ -1,6 +1,5 @@
-use hs_heap::{Atom, Defs};
+use hs_heap::Atom;
 use hs_pure::Var;
-use hs_text::Text;
 use sqlite_items::Items;
 
 /// `null`, or a number variable.
@@ -24,12 +23,6 @@ pub struct Side {
     pub equations: Items<Equation>,
 }
 
-/// The source name of number k is item k, from 1.
-#[derive(Debug, Drop)]
-pub struct Names {
-    pub list: Items<Option<Text>>,
-}
-
 /// An entailment. The open variables are free on the right and not on the left, by rising number. All
 /// numbers are below `next`.
 #[derive(Debug, Drop)]
@@ -38,12 +31,4 @@ pub struct Claim {
     pub right: Side,
     pub opens: Items<Var>,
     pub next: u32,
-    pub names: Names,
-}
-
-/// The data types and the entailments of a source, in order.
-#[derive(Debug, Drop)]
-pub struct Resolved {
-    pub defs: Defs,
-    pub claims: Items<Claim>,
 }

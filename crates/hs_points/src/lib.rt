@@ -9,6 +9,6 @@ mod goal;
 mod laws;
 mod shared;
 
-pub use claim::{Claim, Equation, Names, Resolved, Side, Term};
+pub use claim::{Claim, Equation, Side, Term};
 pub use goal::{Goal, Obligation, Outcome, Question};
 pub use laws::{claims_entail, derivations_entail};

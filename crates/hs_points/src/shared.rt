@@ -1,4 +1,4 @@
-use crate::{Claim, Equation, Goal, Names, Obligation, Outcome, Question, Side, Term};
+use crate::{Claim, Equation, Goal, Obligation, Outcome, Question, Side, Term};
 
 fn is_shared<T: Send + Sync>() {}
 
@@ -7,7 +7,6 @@ fn claims_are_shared() {
     is_shared::<Term>();
     is_shared::<Equation>();
     is_shared::<Side>();
-    is_shared::<Names>();
     is_shared::<Claim>();
     is_shared::<Goal>();
     is_shared::<Question>();

@@ -81,29 +81,113 @@ const UNKNOWN: [Row; 5] = [
     ),
 ];
 
-// Sources that are none of points-to claims.
-const REFUSED: [&str; 16] = [
+// Sources that are refused, behind the 34 bytes of the shared data type.
+const REFUSED: [Row; 16] = [
+    ("entail emp |- ;", 2, "refused: byte 48: unexpected token\n"),
+    ("entail emp |- emp", 2, "refused: byte 51: unexpected end\n"),
+    (
+        "entail emp |- X = null;",
+        2,
+        "refused: byte 52: wrong kind\n",
+    ),
+    (
+        "entail self = null |- emp;",
+        2,
+        "refused: unknown name self\n",
+    ),
+    (
+        "entail x::nod<a, p> |- emp;",
+        2,
+        "refused: unknown name nod\n",
+    ),
+    (
+        "entail x::node<a> |- emp;",
+        2,
+        "refused: byte 41: wrong number of arguments\n",
+    ),
+    ("data node { }", 2, "refused: name node twice\n"),
+    ("data pair { int a; int a; }", 2, "refused: name a twice\n"),
+    (
+        "data pair { int a; other b; }",
+        2,
+        "refused: unknown name other\n",
+    ),
+    (
+        "entail a = 1 |- emp; \u{e9}",
+        2,
+        "refused: byte 55: bad byte\n",
+    ),
+    (
+        "entail a234567890123456789012345678901234567890123456789012345678901234b = a |- emp;",
+        2,
+        "refused: byte 41: name too long\n",
+    ),
+    (
+        "entail emp |- divides(0, a);",
+        2,
+        "refused: byte 48: bad shape\n",
+    ),
+    // The lexer's fault comes before the reader's, and that before one of the normal form.
+    (
+        "entail x::nod<a> |- ; \u{e9}",
+        2,
+        "refused: byte 56: bad byte\n",
+    ),
+    (
+        "entail x::nod<a> |- ;",
+        2,
+        "refused: byte 54: unexpected token\n",
+    ),
+    // A source that has no normal form is refused for that before it is called not built.
+    (
+        "entail a > 0 |- x::nod<a>;",
+        2,
+        "refused: unknown name nod\n",
+    ),
+    (
+        "pred p<> == self = null; entail emp |- x::node<a>;",
+        2,
+        "refused: byte 73: wrong number of arguments\n",
+    ),
+];
+
+// Sources in normal form whose form is not served.
+const NOT_BUILT: [&str; 12] = [
     "entail x > 0 |- emp;",
-    "entail emp |- ;",
-    "entail emp |- emp",
     "entail (a = b) |- emp;",
     "entail true |- emp;",
-    "entail emp |- X = null;",
-    "entail self = null |- emp;",
-    "entail x::nod<a, p> |- emp;",
-    "entail x::node<a> |- emp;",
+    "entail a + 0 = b |- emp;",
+    "entail 0 = a |- emp;",
+    "entail X = Y |- emp;",
     "entail x::node<a, _> |- emp;",
     "entail emp |- exists a. a = null;",
     "entail emp |- emp or emp;",
-    "data node { }",
-    "data pair { int a; int a; }",
-    "data pair { int a; other b; }",
-    "entail a = 1 |- emp; \u{e9}",
+    "pred p<> == self = null;",
+    "method f(node x) requires emp ensures emp; { }",
+    "pred p<> == self = null; lemma l: self::p<> -> self = null;",
 ];
 
-fn check_rows<H: Threads + Sync + Abort>(rt: &H, alloc: Global, rows: &[Row]) -> Result<(), Fail> {
+// Files that are refused, without the shared data type.
+const FILES: [Row; 5] = [
+    ("entail emp |- ;", 2, "refused: byte 14: unexpected token\n"),
+    ("entail emp |-", 2, "refused: byte 13: unexpected end\n"),
+    ("entail x::foo<> |- emp;", 2, "refused: unknown name foo\n"),
+    (
+        "entail x = 9223372036854775808 |- emp;",
+        2,
+        "refused: byte 11: literal too large\n",
+    ),
+    ("lemma a: self::b<> -> emp;", 2, "refused: unknown name b\n"),
+];
+
+fn check_rows<H: Threads + Sync + Abort>(
+    rt: &H,
+    alloc: Global,
+    preamble: &str,
+    rows: &[Row],
+) -> Result<(), Fail> {
     for (source, status, text) in rows {
-        let mut files = MemFiles::new(one_file(alloc, "a", NODE, source)?, Vec::new(alloc));
+        let mut files = MemFiles::new(one_file(alloc, "a", preamble, source)?, Vec::new(alloc));
         let mut sink = MemSink::new(alloc, Vec::new(alloc), 7);
         let asked = words(alloc, &["sleek", "a"])?;
         let answer = run_tool(rt, alloc, &asked, &mut files, &mut sink, &|_number: u32| {});
@@ -115,19 +199,29 @@ fn check_rows<H: Threads + Sync + Abort>(rt: &H, alloc: Global, rows: &[Row]) ->
 
 #[test]
 fn valid_claims_print_their_residues(rt: HostRuntime) -> Result<(), Fail> {
-    check_rows(&rt, rt.alloc(), &VALID)
+    check_rows(&rt, rt.alloc(), NODE, &VALID)
 }
 
 #[test]
 fn unknown_claims_print_their_cause(rt: HostRuntime) -> Result<(), Fail> {
-    check_rows(&rt, rt.alloc(), &UNKNOWN)
+    check_rows(&rt, rt.alloc(), NODE, &UNKNOWN)
 }
 
 #[test]
-fn other_sources_are_refused(rt: HostRuntime) -> Result<(), Fail> {
+fn refused_sources_print_their_first_fault(rt: HostRuntime) -> Result<(), Fail> {
+    check_rows(&rt, rt.alloc(), NODE, &REFUSED)
+}
+
+#[test]
+fn refused_files_print_their_first_fault(rt: HostRuntime) -> Result<(), Fail> {
+    check_rows(&rt, rt.alloc(), "", &FILES)
+}
+
+#[test]
+fn other_sources_are_not_built(rt: HostRuntime) -> Result<(), Fail> {
     let alloc = rt.alloc();
-    for source in REFUSED {
-        check_rows(&rt, alloc, &[(source, 2, "refused: not built\n")])?;
+    for source in NOT_BUILT {
+        check_rows(&rt, alloc, NODE, &[(source, 2, "refused: not built\n")])?;
     }
     Ok(())
 }

@@ -1,3 +1,4 @@
-pub mod Statuses
-pub mod Verdicts
-pub mod Writing
+mod Claims
+mod Reasons
+mod Verdicts
+mod Writing

@@ -1,5 +1,4 @@
-pub mod Words
-pub mod Line
+pub mod Status
 pub mod Output
 pub mod Sleek
 pub mod Run

@@ -1,17 +1,24 @@
 -- What the whole program answers: one report, written whole or in part.
-use Rattle.std.specs.Prelude.{◌≡◌, ◌⊎◌, ℕ, ◌<◌, ◌≤◌, List, [], ◌∷◌, length, take, Option, Some, None, IfSome}
+use Rattle.std.specs.Prelude.{◌≡◌, ◌⊎◌, ℕ, ◌<◌, ◌≤◌, List, [], ◌∷◌, length, take, Option, Some, None, if◌then◌else◌, IfSome}
 use Rattle.std.specs.Io.KnownBytes.{Appends}
 use Rattle.hs_io.specs.Files.{bytes_of}
-use Rattle.hs_points.specs.declared.claim.Resolved.{Resolved}
-use Rattle.hs_points_read.specs.Normal.{IsResolved}
-use Rattle.hs_tool.specs.Line.{text_of, status_of}
+use Rattle.clap.specs.Words.{takes, subcommand_of}
+use Rattle.hs_cli.specs.Command.{hipsleek_app}
+use Rattle.hs_cli.specs.Job.{job_of}
+use Rattle.hs_cli.specs.declared.jobs.Job.{Job}
+use Rattle.hs_cli.specs.declared.jobs.Job.TheVariants.{Sleek}
+use Rattle.hs_print.specs.Line.{text_of}
+use Rattle.hs_print.specs.declared.line.Line.{Line}
+use Rattle.hs_print.specs.declared.line.Line.TheVariants.{RefusedWords, FileFault, Refused}
+use Rattle.hs_print.specs.declared.refusal.Refusal.TheVariants.{FileTooLarge}
+use Rattle.hs_tool.specs.Status.{status_of}
+use Rattle.hs_tool.specs.Sleek as sleek
 use Rattle.hs_tool.specs.Sleek.{IsSourceReport}
 use Rattle.hs_tool.specs.declared.TheConstants.{SOURCE_LIMIT}
-use Rattle.hs_tool.specs.declared.command.Job.{Job}
-use Rattle.hs_tool.specs.declared.command.Job.TheVariants.{Sleek}
-use Rattle.hs_tool.specs.declared.line.Line.{Line}
-use Rattle.hs_tool.specs.declared.line.Line.TheVariants.{RefusedWords, FileFault, Refused}
-use Rattle.hs_tool.specs.declared.refusal.Refusal.TheVariants.{FileTooLarge}
+
+-- the job that the words name, if the command takes them
+abbrev pub job_named : List (List ℕ) → Option Job
+job_named words = if takes hipsleek_app words then job_of (subcommand_of hipsleek_app words) else None
 
 -- the files by name, where they are known
 abbrev pub Known : Type 0
@@ -42,16 +49,16 @@ IsFileReport known rose limit name IsReport report =
 -- the report for a job, or for words that name none
 unfoldable pub IsReport : Known → Type 0 → Option Job → List Line → Type 0
 IsReport known rose None report = report ≡ RefusedWords ∷ []
-IsReport known rose (Some (Sleek name)) report = IsFileReport known rose SOURCE_LIMIT name IsSourceReport report
+IsReport known rose (Some (Sleek name options)) report = IsFileReport known rose SOURCE_LIMIT name IsSourceReport report
 
 -- ---- the status
 
--- bytes of a file that are no source, or more than the limit
+-- the file is longer than its limit, or its bytes are refused
 abbrev pub IsRefusable : Known → Option Job → Type 0
 IsRefusable known None = ⊥
-IsRefusable None (Some (Sleek name)) = Unit {0}
-IsRefusable (Some files) (Some (Sleek name)) =
-    (SOURCE_LIMIT < length (bytes_of files name)) ⊎ ((resolved : Resolved) → IsResolved (bytes_of files name) resolved → ⊥)
+IsRefusable None (Some (Sleek name options)) = Unit {0}
+IsRefusable (Some files) (Some (Sleek name options)) =
+    (SOURCE_LIMIT < length (bytes_of files name)) ⊎ sleek.IsRefusable (bytes_of files name)
 
 -- a report whose status is that of words without a job, of a fault or of a refusal has that cause
 pub record HasStatusCause (known : Known) (rose : Type 0) (job : Option Job) (report : List Line) : Type 0 where

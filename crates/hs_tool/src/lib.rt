@@ -2,24 +2,20 @@
 //!
 //! [`run_tool`] writes one report, which the words and the files determine, and answers its status. A printed
 //! `valid` means that every stack and heap that satisfies the antecedent splits into a part that satisfies
-//! the consequent and a rest that satisfies the printed residue.
+//! the consequent and a rest that satisfies the printed residue. A refusal is that of the first fault: the words,
+//! the file, the lexer, the reader, the normal form, and then what is not served yet.
 #![tactic(auto)]
 
-mod command;
-mod line;
+mod causes;
 mod output;
-mod refusal;
-mod shared;
 mod sleek;
+mod statuses;
 mod tool;
-mod why;
-mod words;
 
 /// The most bytes that a source may have.
 pub const SOURCE_LIMIT: u64 = 1 << 20;
 
-pub use command::Job;
-pub use line::{Line, status};
-pub use refusal::Refusal;
+pub use hs_cli::{Job, Options};
+pub use hs_print::{Line, Refusal, Tried, Why, Word};
+pub use statuses::status;
 pub use tool::run_tool;
-pub use why::Why;

@@ -2,17 +2,16 @@ ghost use Rattle.std.specs.Prelude.{◌≡◌, ◌⊎◌, ◌<◌, ◌≤◌, []
 ghost use Rattle.std.specs.Io.KnownBytes.{Appends};
 ghost use Rattle.std.specs.String.{string_bytes};
 ghost use Rattle.hs_io.specs.Faults.{Rose};
-ghost use Rattle.hs_tool.specs.Words.{job_of};
 ghost use Rattle.hs_tool.specs.Sleek.{IsSourceReport};
-ghost use Rattle.hs_tool.specs.Run.{IsFileReport, IsReport, IsRefusable, HasStatusCause, Whole, Front};
+ghost use Rattle.hs_tool.specs.Run.{job_named, IsFileReport, IsReport, IsRefusable, HasStatusCause, Whole, Front};
 
-use crate::command::Job;
-use crate::line::{Line, alone, status, text};
 use crate::output::write_all;
-use crate::refusal::Refusal;
-use crate::words::{WordsError, job};
-use crate::{SOURCE_LIMIT, sleek};
+use crate::sleek::{alone, report};
+use crate::statuses::status;
+use crate::{Line, Refusal, SOURCE_LIMIT};
+use hs_cli::{Job, Options, WordsError, job};
 use hs_io::{FetchError, Files, PutError, Sink};
+use hs_print::text;
 use hs_pure::NoMemory;
 use hs_text::Text;
 use std::alloc::Global;
@@ -38,19 +37,19 @@ where
 
     // Below 5 the whole report was written, and is right. At 5 a front of it was written, and at 6 that or nothing.
     ensures whole { result < 5 → Whole
-        (IsReport (F.texts files.old) (Rose (F.faults files.old) (F.faults files.new)) (job_of (map string_bytes words.now)))
+        (IsReport (F.texts files.old) (Rose (F.faults files.old) (F.faults files.new)) (job_named (map string_bytes words.now)))
         (K.written sink.old) (K.written sink.new) result }
     ensures front { result ≡ 5 → Front
-        (IsReport (F.texts files.old) (Rose (F.faults files.old) (F.faults files.new)) (job_of (map string_bytes words.now)))
+        (IsReport (F.texts files.old) (Rose (F.faults files.old) (F.faults files.new)) (job_named (map string_bytes words.now)))
         (K.written sink.old) (K.written sink.new) }
     ensures memory { result ≡ 6 → Appends (K.written sink.old) (K.written sink.new) [] ⊎ Front
-        (IsReport (F.texts files.old) (Rose (F.faults files.old) (F.faults files.new)) (job_of (map string_bytes words.now)))
+        (IsReport (F.texts files.old) (Rose (F.faults files.old) (F.faults files.new)) (job_named (map string_bytes words.now)))
         (K.written sink.old) (K.written sink.new) }
     ensures statuses { result ≤ 6 }
 
     // Each status has its cause. 6 is want of memory.
-    ensures refused { result ≡ 2 → IsRefusable (F.texts files.old) (job_of (map string_bytes words.now)) }
-    ensures words { result ≡ 3 → job_of (map string_bytes words.now) ≡ None }
+    ensures refused { result ≡ 2 → IsRefusable (F.texts files.old) (job_named (map string_bytes words.now)) }
+    ensures words { result ≡ 3 → job_named (map string_bytes words.now) ≡ None }
     ensures fetch_fault { result ≡ 4 → Rose (F.faults files.old) (F.faults files.new) }
     ensures put_fault { result ≡ 5 → Rose (K.faults sink.old) (K.faults sink.new) }
 {
@@ -76,10 +75,10 @@ fn report_for<F: Files>(
     words: &[String],
     files: &mut F,
 ) -> Result<Vec<Line>, NoMemory>
-    ensures report { IfOk result (λ report. IsReport (F.texts files.old) (Rose (F.faults files.old) (F.faults files.new)) (job_of (map string_bytes words.now)) report.items) }
-    ensures cause { IfOk result (λ report. HasStatusCause (F.texts files.old) (Rose (F.faults files.old) (F.faults files.new)) (job_of (map string_bytes words.now)) report.items) }
+    ensures report { IfOk result (λ report. IsReport (F.texts files.old) (Rose (F.faults files.old) (F.faults files.new)) (job_named (map string_bytes words.now)) report.items) }
+    ensures cause { IfOk result (λ report. HasStatusCause (F.texts files.old) (Rose (F.faults files.old) (F.faults files.new)) (job_named (map string_bytes words.now)) report.items) }
 {
-    match job(words) {
+    match job(alloc, words) {
         Ok(job) => job_report(alloc, job, files),
         Err(WordsError::Words) => Ok(alone(alloc, Line::RefusedWords)?),
         Err(WordsError::Memory) => Err(NoMemory),
@@ -93,17 +92,23 @@ fn job_report<F: Files>(alloc: Global, job: Job, files: &mut F) -> Result<Vec<Li
     ensures cause { IfOk result (λ report. HasStatusCause (F.texts files.old) (Rose (F.faults files.old) (F.faults files.new)) (Some job) report.items) }
 {
     match job {
-        Job::Sleek(name) => sleek_file(alloc, name, files),
+        Job::Sleek(name, options) => sleek_file(alloc, name, options, files),
     }
 }
 
-// The report on a file of entailments.
-fn sleek_file<F: Files>(alloc: Global, name: Text, files: &mut F) -> Result<Vec<Line>, NoMemory>
+// The report on a file of entailments. The options change no answer yet.
+fn sleek_file<F: Files>(
+    alloc: Global,
+    name: Text,
+    options: Options,
+    files: &mut F,
+) -> Result<Vec<Line>, NoMemory>
     ensures report { IfOk result (λ report. IsFileReport (F.texts files.old) (Rose (F.faults files.old) (F.faults files.new)) SOURCE_LIMIT name IsSourceReport report.items) }
-    ensures cause { IfOk result (λ report. HasStatusCause (F.texts files.old) (Rose (F.faults files.old) (F.faults files.new)) (Some (Job.Sleek name)) report.items) }
+    ensures cause { IfOk result (λ report. HasStatusCause (F.texts files.old) (Rose (F.faults files.old) (F.faults files.new)) (Some (Job.Sleek name options)) report.items) }
 {
+    let _ = options;
     match files.fetch(alloc, name.as_str(), SOURCE_LIMIT) {
-        Ok(source) => sleek::report(alloc, &source),
+        Ok(source) => report(alloc, &source),
         Err(FetchError::Failed) => Ok(alone(alloc, Line::FileFault(name))?),
         Err(FetchError::TooLarge(_)) => Ok(alone(alloc, Line::Refused(Refusal::FileTooLarge))?),
         Err(FetchError::Memory) => Err(NoMemory),

@@ -1,0 +1,4 @@
+mod Clear
+mod Entailments
+mod Fitting
+mod Readings

@@ -1,9 +1,0 @@
-pub mod Words
-pub mod Spelling
-pub mod Sound
-pub mod Normal
-pub mod Parser
-pub mod View
-pub mod Parse
-pub mod Check
-pub mod Read
