@@ -7,3 +7,4 @@ pub mod Light
 pub mod Order
 pub mod Splicing
 pub mod Tables
+pub mod Answered

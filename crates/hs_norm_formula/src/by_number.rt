@@ -1,6 +1,9 @@
 //! Formulas whose variables are written by their numbers.
 
 ghost use Rattle.std.specs.Prelude.{◌≡◌, ◌-◌, ◌^◌, min, IfOk, map, false};
+ghost use Rattle.hs_numbering.specs.Numbering.{Builds};
+ghost use Rattle.hs_numbering.specs.Least as first;
+ghost use Rattle.hs_norm_formula.specs.Formula.{formula};
 ghost use Rattle.hs_norm_formula.specs.Numbered as spec;
 ghost use Rattle.hs_norm_formula.specs.Numbered.{Gives};
 
@@ -139,6 +142,30 @@ fn entries(alloc: Global, defs: &Defs) -> Result<Items<Entry>, NoMemory>
     Ok(all)
 }
 
+// The normal form over these definitions, whatever faults are met.
+fn built(
+    alloc: Global,
+    defs: &Defs,
+    n: &mut Numbering,
+    tree: &FormulaTree,
+) -> Result<Formula, NoMemory>
+    ensures { Builds (formula (spec.entries_of defs.now) tree.now n.old) result n.new }
+{
+    let entries = entries(alloc, defs)?;
+    let places = places(alloc, entries.as_slice())?;
+    normal_formula(alloc, n, &places, entries.as_slice(), tree)
+}
+
+// What was built, or the error of the first fault.
+fn first_fault(alloc: Global, formula: Formula, faults: &[Fault]) -> Result<Formula, NormError>
+    ensures { Gives (spec.outcome (first.least faults.now) formula) result }
+{
+    match least(faults) {
+        Some(fault) => Err(error_of(alloc, fault)?),
+        None => Ok(formula),
+    }
+}
+
 /// The formula of a tree whose variables are written `vK`, or `VK` for a bag, with K from 1 to 2^32 - 1. Its
 /// arguments are variables. `TooMany` never comes. `Twice` comes only for a binder inside a binder of the
 /// same number. `Shape` comes also for an argument that is no variable and for a sum of which a coefficient
@@ -146,12 +173,7 @@ fn entries(alloc: Global, defs: &Defs) -> Result<Items<Entry>, NoMemory>
 pub fn numbered(alloc: Global, defs: &Defs, tree: &FormulaTree) -> Result<Formula, NormError>
     ensures exact { Gives (spec.numbered defs.now tree.now) result }
 {
-    let entries = entries(alloc, defs)?;
-    let places = places(alloc, entries.as_slice())?;
     let mut n = Numbering::new(alloc, Reading::Numbered);
-    let formula = normal_formula(alloc, &mut n, &places, entries.as_slice(), tree)?;
-    match least(n.faults.as_slice()) {
-        Some(fault) => Err(error_of(alloc, fault)?),
-        None => Ok(formula),
-    }
+    let formula = built(alloc, defs, &mut n, tree)?;
+    first_fault(alloc, formula, n.faults.as_slice())
 }

@@ -11,6 +11,7 @@ mod laws;
 mod name;
 mod names;
 mod numbering;
+mod scope;
 mod shared;
 
 pub use fault::{Fault, Limit, Problem};
@@ -19,3 +20,4 @@ pub use laws::least_is_first;
 pub use name::{is_upper, numbered_var};
 pub use names::Names;
 pub use numbering::{Named, Numbering, Reading};
+pub use scope::Scope;

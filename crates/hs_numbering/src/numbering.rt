@@ -6,6 +6,7 @@ ghost use Rattle.hs_numbering.specs.Numbering.{Builds};
 
 use crate::fault::{Fault, Limit, Problem};
 use crate::name::{is_upper, numbered_var};
+use crate::scope::Scope;
 use hs_pure::{NoMemory, Pure, Var};
 use hs_text::Text;
 use hs_tree::Ident;
@@ -37,28 +38,16 @@ pub struct Numbering {
     /// The source names of the numbers given so far, the first that of number 1. There are at most 1000.
     pub names: Items<Option<Text>>,
     /// Names that no binder may have, as `self` and parameters.
-    pub fixed: Items<Named>,
+    pub fixed: Scope,
     /// The other names that are free.
-    pub known: Items<Named>,
+    pub known: Scope,
     /// The binders around, innermost last.
-    pub around: Items<Named>,
+    pub around: Scope,
     /// The variables that the disjunct at hand binds beside those of its own names.
     pub flat: Items<Var>,
     /// The equations of those variables.
     pub equations: Items<Pure>,
     pub faults: Items<Fault>,
-}
-
-fn last_named(names: &[Named], name: &Text) -> Option<Var>
-    ensures { result ≡ spec.last_named name.now names.now }
-{
-    let mut found = None;
-    for named in names {
-        if name.same(&named.name) {
-            found = Some(named.var);
-        }
-    }
-    found
 }
 
 fn has_number(names: &[Named], number: u32) -> bool
@@ -82,9 +71,9 @@ impl Numbering {
         Numbering {
             reading,
             names: Items::new(alloc),
-            fixed: Items::new(alloc),
-            known: Items::new(alloc),
-            around: Items::new(alloc),
+            fixed: Scope::new(alloc),
+            known: Scope::new(alloc),
+            around: Scope::new(alloc),
             flat: Items::new(alloc),
             equations: Items::new(alloc),
             faults,
@@ -156,8 +145,7 @@ impl Numbering {
         ensures { Builds (spec.fix ident.now self.old) result self.new }
     {
         let var = self.give_named(alloc, ident)?;
-        let name = ident.text.copy(alloc)?;
-        self.fixed.push(Named { name, var })?;
+        self.fixed.push(alloc, &ident.text, var)?;
         Ok(var)
     }
 
@@ -165,8 +153,7 @@ impl Numbering {
     pub fn learn(&mut self, alloc: Global, ident: &Ident, var: Var) -> Result<(), NoMemory>
         ensures { Builds (spec.learn ident.now var self.old) result self.new }
     {
-        let name = ident.text.copy(alloc)?;
-        self.known.push(Named { name, var })?;
+        self.known.push(alloc, &ident.text, var)?;
         Ok(())
     }
 
@@ -202,13 +189,13 @@ impl Numbering {
     fn resolve_name(&mut self, alloc: Global, ident: &Ident) -> Result<Var, NoMemory>
         ensures { Builds (spec.resolve_name ident.now self.old) result self.new }
     {
-        if let Some(var) = last_named(self.around.as_slice(), &ident.text) {
+        if let Some(var) = self.around.last(&ident.text) {
             return Ok(var);
         }
-        if let Some(var) = last_named(self.known.as_slice(), &ident.text) {
+        if let Some(var) = self.known.last(&ident.text) {
             return Ok(var);
         }
-        if let Some(var) = last_named(self.fixed.as_slice(), &ident.text) {
+        if let Some(var) = self.fixed.last(&ident.text) {
             return Ok(var);
         }
         self.resolve_free(alloc, ident)
@@ -237,9 +224,7 @@ impl Numbering {
     fn bind_name(&mut self, alloc: Global, ident: &Ident) -> Result<Var, NoMemory>
         ensures { Builds (spec.bind_name ident.now self.old) result self.new }
     {
-        if last_named(self.around.as_slice(), &ident.text).is_some()
-            || last_named(self.fixed.as_slice(), &ident.text).is_some()
-        {
+        if self.around.last(&ident.text).is_some() || self.fixed.last(&ident.text).is_some() {
             self.blame_twice(alloc, ident)?;
         }
         let var = self.give_named(alloc, ident)?;
@@ -278,8 +263,7 @@ impl Numbering {
     pub fn enter(&mut self, alloc: Global, ident: &Ident, var: Var) -> Result<(), NoMemory>
         ensures { Builds (spec.enter ident.now var self.old) result self.new }
     {
-        let name = ident.text.copy(alloc)?;
-        self.around.push(Named { name, var })?;
+        self.around.push(alloc, &ident.text, var)?;
         Ok(())
     }
 

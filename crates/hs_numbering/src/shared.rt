@@ -1,4 +1,4 @@
-use crate::{Fault, Limit, Named, Names, Numbering, Problem, Reading};
+use crate::{Fault, Limit, Named, Names, Numbering, Problem, Reading, Scope};
 
 fn is_shared<T: Send + Sync>() {}
 
@@ -8,6 +8,7 @@ fn numberings_are_shared() {
     is_shared::<Problem>();
     is_shared::<Fault>();
     is_shared::<Named>();
+    is_shared::<Scope>();
     is_shared::<Names>();
     is_shared::<Reading>();
     is_shared::<Numbering>();
