@@ -10,3 +10,12 @@ pub mod Parts
 pub mod Lists
 pub mod Occurring
 pub mod Soundness
+pub mod Booleans
+pub mod Free
+pub mod Counts
+pub mod Cleaning
+pub mod CleaningHeaps
+pub mod Renaming
+pub mod Sources
+pub mod Bodies
+pub mod Satisfied

@@ -1,11 +1,12 @@
--- What occurs in a formula is free or bound there.
-use Rattle.std.proofs.Common.{◌≡◌, Bool, true, false, not, ◌&&◌, ◌||◌, refl, sym, ap, ◌∙◌}
+-- What occurs is free or bound.
+use Rattle.std.proofs.Common.{◌≡◌, Bool, true, false, not, ◌&&◌, ◌||◌, IsTrue, refl, sym, ap, ◌∙◌, subst}
 use Rattle.hs_pure.specs.declared.var.Var.{Var}
 use Rattle.hs_pure.specs.declared.pure.Pure.{Pure}
 use Rattle.hs_pure.specs.Stack.{same}
 use Rattle.hs_pure.specs.Assertion.{Assertion, truth, eq, lt, le, divides, bag_eq, subset, member, all_of, negation, both, either, exists, forall, assertion_of}
 use Rattle.hs_pure.specs.Occurs.{in_lin, is_free, is_bound, occurs}
 use Rattle.hs_pure.specs.Mirror.{in_bag_term, is_free_in, is_bound_in, occurs_in}
+use Rattle.hs_pure.proofs.Vars.{or_right}
 use Rattle.hs_pure.proofs.Mirrored.{is_free-is, is_bound-is, occurs-is}
 
 none : (b : Bool) → b ≡ (b || false)
@@ -44,3 +45,6 @@ module _ (v : Var) where
 
   pub occurs-splits : (p : Pure) → occurs v p ≡ (is_free v p || is_bound v p)
   occurs-splits p = occurs-is v p ∙ splits (assertion_of p) ∙ (λ i. sym (is_free-is v p) i || sym (is_bound-is v p) i)
+
+  pub bound-occurs_of : (p : Pure) → IsTrue (is_bound v p) → IsTrue (occurs v p)
+  bound-occurs_of p e = subst IsTrue (sym (occurs-splits p)) (or_right (is_free v p) (is_bound v p) e)

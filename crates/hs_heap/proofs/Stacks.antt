@@ -27,6 +27,9 @@ same_true u v e =
 pub same_itself : (u : Var) → same u u ≡ true
 same_itself u = and_from _ _ (eq-eqb u.number u.number refl) (kind_itself u.bag)
 
+pub same_is : (u v : Var) → u ≡ v → same u v ≡ true
+same_is u v e = subst (λ w. same u w ≡ true) e (same_itself u)
+
 pub same_false : (u v : Var) → (u ≡ v → ⊥) → same u v ≡ false
 same_false u v n = false_from_ne_true (same u v) (λ e. n (same_true u v e))
 

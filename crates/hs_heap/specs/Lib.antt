@@ -5,3 +5,6 @@ pub mod Variables
 pub mod WellFormed
 pub mod Sound
 pub mod Tests
+pub mod Renamed
+pub mod Instance
+pub mod Laws

@@ -25,3 +25,7 @@ module _ (v : Var) where
   -- whether v occurs in a disjunct, bound or free
   abbrev pub occurs_in_disjunct : Disjunct → Bool
   occurs_in_disjunct d = is_in v d.bound || (list_any in_atom d.atoms || list_any (occurs v) d.pure)
+
+  -- whether v occurs in one of the disjuncts, bound or free
+  abbrev pub occurs_in_formula : Formula → Bool
+  occurs_in_formula f = list_any occurs_in_disjunct f.cases

@@ -9,6 +9,7 @@
 mod copies;
 mod definitions;
 mod formula;
+mod laws;
 mod node;
 mod pures;
 mod scope;
@@ -17,4 +18,10 @@ mod sound;
 
 pub use definitions::{Defs, Lemma, NodeDef, PredDef};
 pub use formula::{Atom, Disjunct, Formula, Of};
+pub use laws::{
+    arguments_are_of_variables, atoms_are_of_variables, bound_occurs, conjuncts_are_of_free,
+    instantiated_binds_new, instantiated_means_body, instantiated_means_invariant,
+    renamed_is_satisfied, renamed_variables, satisfaction_is_of_free, satisfaction_is_of_kinds,
+    sound_bodies_fit,
+};
 pub use node::HeapNode;
