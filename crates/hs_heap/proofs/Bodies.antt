@@ -29,7 +29,7 @@ use Rattle.hs_heap.specs.Instance.{Body, CaseFits, BodyFits, body_of, body_of_pr
 use Rattle.hs_heap.proofs.Booleans.{bool_cases, or_false_left, or_false_right, clash, not_of_false}
 use Rattle.hs_heap.proofs.Free.{Agree-sym, cases_agree}
 use Rattle.hs_heap.proofs.Renaming.{before, cases_renamed, renamed_cases}
-use Rattle.hs_heap.proofs.Occurring.{bound-occurs_of}
+use Rattle.hs_heap.proofs.Occurring.{bound_occurs}
 use Rattle.hs_heap.proofs.Counts.{count-passes, count-tells}
 use Rattle.hs_heap.proofs.Lists.{any_forth}
 use Rattle.hs_heap.proofs.Sources.{cases_source, cases_bound_source, cases_occurs_source}
@@ -91,23 +91,10 @@ put-value (w ∷ ws) (a ∷ args) e s z v k i = elim (bool_cases (same w v)) [
 
 -- ---- bodies
 
-some_bound_occurs : (u : Var) (ps : List Pure) → IsTrue (list_any (is_bound u) ps) → IsTrue (list_any (occurs u) ps)
-some_bound_occurs u [] e = e
-some_bound_occurs u (p ∷ ps) e = elim (or_cases (is_bound u p) (list_any (is_bound u) ps) e) [
-  | inl k ↦ or_left (occurs u p) (list_any (occurs u) ps) (bound-occurs_of u p k)
-  | inr k ↦ or_right (occurs u p) (list_any (occurs u) ps) (some_bound_occurs u ps k)
-]
-
-bound_occurs : (d : Disjunct) (u : Var) → IsTrue (is_bound_in_disjunct u d) → IsTrue (occurs_in_disjunct u d)
-bound_occurs d u i = elim (or_cases (is_in u d.bound) (list_any (is_bound u) d.pure) i) [
-  | inl k ↦ or_left (is_in u d.bound) (list_any (in_atom u) d.atoms || list_any (occurs u) d.pure) k
-  | inr k ↦ or_right (is_in u d.bound) (list_any (in_atom u) d.atoms || list_any (occurs u) d.pure) (or_right (list_any (in_atom u) d.atoms) (list_any (occurs u) d.pure) (some_bound_occurs u d.pure k))
-]
-
 cases_bound_occurs : (ds : List Disjunct) (u : Var) → IsTrue (list_any (is_bound_in_disjunct u) ds) → IsTrue (list_any (occurs_in_disjunct u) ds)
 cases_bound_occurs [] u e = e
 cases_bound_occurs (d ∷ ds) u e = elim (or_cases (is_bound_in_disjunct u d) (list_any (is_bound_in_disjunct u) ds) e) [
-  | inl k ↦ or_left (occurs_in_disjunct u d) (list_any (occurs_in_disjunct u) ds) (bound_occurs d u k)
+  | inl k ↦ or_left (occurs_in_disjunct u d) (list_any (occurs_in_disjunct u) ds) (bound_occurs u d k)
   | inr k ↦ or_right (occurs_in_disjunct u d) (list_any (occurs_in_disjunct u) ds) (cases_bound_occurs ds u k)
 ]
 
@@ -167,7 +154,7 @@ module _ (defs : Defs) (b : Body) (root : Var) (args : List Var) (fresh : ℕ) (
   keeps_apart [] inside f = All-nil (DisjunctKeepsApart ρ)
   keeps_apart (d ∷ ds) inside f = All-cons (DisjunctKeepsApart ρ) d ds
       (λ u v i o e. apart u v (bound_unnamed d (All-head (CaseFits defs (self_var ∷ b.params) b.next) d ds f) u i)
-      (inside u (or_left (occurs_in_disjunct u d) (list_any (occurs_in_disjunct u) ds) (bound_occurs d u i)))
+      (inside u (or_left (occurs_in_disjunct u d) (list_any (occurs_in_disjunct u) ds) (bound_occurs u d i)))
       (inside v (or_left (occurs_in_disjunct v d) (list_any (occurs_in_disjunct v) ds) o)) e)
       (keeps_apart ds (λ v o. inside v (or_right (occurs_in_disjunct v d) (list_any (occurs_in_disjunct v) ds) o)) (All-tail (CaseFits defs (self_var ∷ b.params) b.next) d ds f))
 

@@ -19,3 +19,6 @@ pub mod Renaming
 pub mod Sources
 pub mod Bodies
 pub mod Satisfied
+pub mod Places
+pub mod Fitting
+pub mod Tops
