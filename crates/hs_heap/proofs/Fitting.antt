@@ -9,7 +9,7 @@ use Rattle.std.proofs.lemmas.Bool.{and_parts, and_from}
 use Rattle.hs_pure.specs.declared.var.Var.{Var}
 use Rattle.hs_pure.specs.declared.pure.Pure.{Pure}
 use Rattle.hs_pure.specs.Stack.{same}
-use Rattle.hs_pure.specs.Occurs.{is_bound, occurs}
+use Rattle.hs_pure.specs.Occurs.{occurs}
 use Rattle.hs_heap.specs.declared.formula.Atom.{Atom}
 use Rattle.hs_heap.specs.declared.formula.Disjunct.{Disjunct}
 use Rattle.hs_heap.specs.declared.definitions.NodeDef.{NodeDef}
@@ -17,11 +17,11 @@ use Rattle.hs_heap.specs.declared.definitions.Defs.{Defs}
 use Rattle.hs_heap.specs.declared.node.HeapNode.{HeapNode}
 use Rattle.hs_heap.specs.Heap.{Heap, Entry}
 use Rattle.hs_heap.specs.Meaning.{is_in}
-use Rattle.hs_heap.specs.Variables.{in_atom, is_free_in_disjunct, occurs_in_disjunct}
+use Rattle.hs_heap.specs.Variables.{in_atom}
 use Rattle.hs_heap.specs.Sound.{IsNumbered, AtomFits, PureFits, DisjunctFits, NodeFits, HeapFits, argument_kinds, kinds, node_at}
 use Rattle.hs_heap.specs.Tests.{number_fits, arguments_fit, atom_alone_fits, disjunct_fits, has_fields, node_fits}
 use Rattle.hs_heap.proofs.Stacks.{same_true}
-use Rattle.hs_heap.proofs.Booleans.{bool_cases, not_of_false}
+use Rattle.hs_heap.proofs.Booleans.{bool_cases}
 use Rattle.hs_heap.proofs.Tells.{Tells, tells, tells_both, tells_all, tells_not, tells_le, tells_lt, tells_eq}
 use Rattle.hs_heap.proofs.Occurring.{free_occurs, bound-occurs_of}
 use Rattle.hs_heap.proofs.Soundness.{arguments_told, disjunct_told}

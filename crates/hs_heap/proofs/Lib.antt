@@ -22,3 +22,7 @@ pub mod Satisfied
 pub mod Places
 pub mod Fitting
 pub mod Tops
+pub mod Seeing
+pub mod SameNames
+pub mod Naming
+pub mod Instances

@@ -1,11 +1,11 @@
 -- A renamed formula holds at a stack where the formula holds at the stack before the renaming.
-use Rattle.std.proofs.Common.{if◌then◌else◌, ℤ, ◌≡◌, Bool, true, false, not, ◌&&◌, ◌||◌, IsTrue, inl, inr, List, [], ◌∷◌, map, refl, sym, ◌∙◌, ap, subst}
+use Rattle.std.proofs.Common.{if◌then◌else◌, ◌≡◌, Bool, true, false, not, ◌||◌, IsTrue, inl, inr, List, [], ◌∷◌, map, refl, sym, ◌∙◌, ap, subst}
 use Rattle.std.specs.List.{list_any, All}
 use Rattle.std.proofs.lemmas.Bool.{or_cases, and_from}
 use Rattle.std.proofs.lemmas.List.Elements.{All-head, All-tail}
 use Rattle.hs_pure.specs.declared.var.Var.{Var}
 use Rattle.hs_pure.specs.declared.pure.Pure.{Pure}
-use Rattle.hs_pure.specs.Stack.{Stack, Value, same, with_value}
+use Rattle.hs_pure.specs.Stack.{Stack, same, with_value}
 use Rattle.hs_pure.specs.Occurs.{is_free, is_bound, occurs}
 use Rattle.hs_pure.specs.Rename.{renamed, KeepsApart}
 use Rattle.hs_pure.specs.Sums.{KeepsKinds}
@@ -15,14 +15,14 @@ use Rattle.hs_pure.proofs.Vars.{or_left, or_right}
 use Rattle.hs_heap.specs.declared.formula.Atom.{Atom}
 use Rattle.hs_heap.specs.declared.formula.Disjunct.{Disjunct}
 use Rattle.hs_heap.specs.Heap.{Heap}
-use Rattle.hs_heap.specs.Meaning.{Argument, Number, Elements, Meaning, argument_at, is_in, SameBut, AllTrueAt, AtomsHold, DisjunctHolds, SomeHolds}
-use Rattle.hs_heap.specs.Variables.{in_atom, is_free_in_disjunct, occurs_in_disjunct}
-use Rattle.hs_heap.proofs.Stacks.{same_true, same_itself, same_turned, with_value-same, with_value-other, with_values, with_values-in, with_values-out, SameBut-with_values, same_is}
+use Rattle.hs_heap.specs.Meaning.{Number, Elements, Meaning, argument_at, is_in, SameBut, AllTrueAt, AtomsHold, DisjunctHolds, SomeHolds}
+use Rattle.hs_heap.specs.Variables.{in_atom, is_free_in_disjunct}
+use Rattle.hs_heap.proofs.Stacks.{same_true, same_itself, same_turned, with_value-other, with_values, with_values-in, with_values-out, SameBut-with_values, same_is}
 use Rattle.hs_heap.proofs.Agree.{OfHolds-same}
-use Rattle.hs_heap.specs.Renamed.{renamed_atom, renamed_disjunct, is_bound_in_disjunct, DisjunctKeepsApart}
+use Rattle.hs_heap.specs.Renamed.{renamed_atom, renamed_disjunct, DisjunctKeepsApart}
 use Rattle.hs_heap.proofs.Occurring.{stands_occurs}
 use Rattle.hs_heap.proofs.Booleans.{bool_cases, or_false_left, or_false_right, clash, not_of_false}
-use Rattle.hs_heap.proofs.Free.{Agree-sym, all_true_agrees, atoms_agree, stands}
+use Rattle.hs_heap.proofs.Free.{all_true_agrees, atoms_agree, stands}
 
 -- the stack before a renaming
 abbrev pub before : (Var → Var) → Stack → Stack

@@ -1,5 +1,5 @@
 -- Formulas with variables in the place of others, bound ones too.
-use Rattle.std.specs.Prelude.{◌≡◌, Bool, ◌||◌, IsTrue, List, map}
+use Rattle.std.specs.Prelude.{◌≡◌, Bool, ◌||◌, IsTrue, map}
 use Rattle.std.specs.List.{list_any, All}
 use Rattle.hs_pure.specs.declared.var.Var.{Var}
 use Rattle.hs_pure.specs.Occurs.{is_bound}

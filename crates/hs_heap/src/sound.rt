@@ -3,6 +3,7 @@ ghost use Rattle.std.specs.List.{list_all};
 ghost use Rattle.std.specs.Option.{option_copied};
 ghost use Rattle.hs_heap.specs.Sound.{IsSound, AtomFits, DisjunctFits, FormulaFits, node_at};
 ghost use Rattle.hs_heap.specs.Meaning.{pred_at};
+ghost use Rattle.hs_heap.specs.Instance.{lemma_at};
 ghost use Rattle.hs_heap.specs.Tests.{in_scope, are_distinct, follow_from, same_kinds, is_like_node, is_like_pred, arguments_fit, atom_alone_fits, atom_fits, parts_fit, disjunct_fits, short_fits, bound_fits, conjunct_fits, head_fits, pred_parts_fit, pred_fits, lemma_parts_fit, lemma_fits, defs_fit};
 
 use crate::definitions::{Defs, Lemma, NodeDef, PredDef};
@@ -12,7 +13,7 @@ use crate::scope::{Scope, is_listed};
 use hs_pure::{Pure, Var};
 use hs_text::Text;
 
-const SELF: Var = Var {
+pub(crate) const SELF: Var = Var {
     number: 1,
     bag: false,
 };
@@ -55,6 +56,16 @@ impl Defs {
             return None;
         }
         self.preds.as_slice().get(n as usize - 1)
+    }
+
+    // The lemma of a number from 1.
+    pub(crate) fn lemma(&self, n: u32) -> Option<&Lemma>
+        ensures { option_copied result ≡ lemma_at self.now n }
+    {
+        if n == 0 {
+            return None;
+        }
+        self.lemmas.as_slice().get(n as usize - 1)
     }
 }
 

@@ -1,5 +1,4 @@
-use Rattle.std.proofs.Common.{◌<◌, ◌≤◌, ◌≡◌, IsTrue, sym, subst}
-use Rattle.hs_pure.specs.declared.var.Var.{Var}
+use Rattle.std.proofs.Common.{sym, subst}
 use Rattle.hs_heap.specs.Variables.{occurs_in_disjunct}
 use Rattle.hs_heap.proofs.Tops.{IsTop, disjunct_is_top}
 use Rattle.hs_heap.proofs.formula.Disjunct.top.Goals as goal
