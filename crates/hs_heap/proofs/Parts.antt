@@ -22,7 +22,7 @@ use Rattle.hs_pure.proofs.Levels.{map_Pure-map_Pure, map_Bag-map_Bag}
 use Rattle.hs_heap.specs.WellFormed.{names_in_bag, names_in_bag_level, bag_names, bag_names_level, member_counts, member_counts_level}
 use Rattle.hs_heap.specs.Sound.{IsNumbered}
 use Rattle.hs_heap.specs.Tests.{number_fits, rises_from, is_light, sum_fits, bag_fits, bag_fits_level, binder_fits, pure_fits, pure_fits_level}
-use Rattle.hs_heap.proofs.Stacks.{same_true, same_itself, same_turned}
+use Rattle.hs_heap.proofs.Stacks.{same_true, same_itself, same_sym}
 use Rattle.hs_heap.proofs.Tells.{Tells, tells, tells_both, tells_not, not_true, tells_le, tells_lt, tells_different, either_all}
 
 -- what is told of a formula, and the parts that it is told of
@@ -67,6 +67,19 @@ all_parts qs = record {
 
 abbrev pub counted : ℕ → ℕ → Parts → Parts
 counted m n q = record q { fits = λ s. not (m == 1) && q.fits s; counts = n ∷ q.counts }
+
+-- ---- terms in order
+
+pub rises_told : (n : ℕ) (ts : List (Var × ℤ)) → Tells (rises_from n ts) (RisesFrom n ts)
+rises_told n [] = (λ h. tt, λ h. refl)
+rises_told n (t ∷ ts) = tells (rises_from n (t ∷ ts)) ((n ≤ t.0.number) × ((t.0.bag ≡ false) × ((¬ (t.1 ≡ pos 0)) × RisesFrom (suc t.0.number) ts))) (RisesFrom n (t ∷ ts))
+    (tells_both (nat_le n t.0.number) (not t.0.bag && (not (int_eq t.1 (pos 0)) && rises_from (suc t.0.number) ts)) (n ≤ t.0.number) ((t.0.bag ≡ false) × ((¬ (t.1 ≡ pos 0)) × RisesFrom (suc t.0.number) ts)) (tells_le n t.0.number)
+    (tells_both (not t.0.bag) (not (int_eq t.1 (pos 0)) && rises_from (suc t.0.number) ts) (t.0.bag ≡ false) ((¬ (t.1 ≡ pos 0)) × RisesFrom (suc t.0.number) ts) (tells_not t.0.bag)
+    (tells_both (not (int_eq t.1 (pos 0))) (rises_from (suc t.0.number) ts) (¬ (t.1 ≡ pos 0)) (RisesFrom (suc t.0.number) ts) (not_true (int_eq t.1 (pos 0)) (t.1 ≡ pos 0) (int_told t.1)) (rises_told (suc t.0.number) ts))))
+    (λ h. (h.0, h.1.0, h.1.1.0, h.1.1.1)) (λ h. (h.0, (h.1, (h.2, h.3))))
+  where
+    int_told : (z : ℤ) → Tells (int_eq z (pos 0)) (z ≡ pos 0)
+    int_told z = (λ h. (Decides-int_eq z (pos 0)).0 h, λ h. (Decides-int_eq z (pos 0)).1 h)
 
 module _ (outer : Var → Bool) (next : ℕ) where
   abbrev pub under : Var → Parts → Parts
@@ -128,13 +141,6 @@ module _ (outer : Var → Bool) (next : ℕ) where
       ))
 
   -- ---- what is bound
-
-  same_sym : (u v : Var) → same u v ≡ same v u
-  same_sym u v = go (same u v) refl
-    where
-      go : (b : Bool) → same u v ≡ b → same u v ≡ same v u
-      go true e = subst (λ w. same u w ≡ same w u) (same_true u v e) refl
-      go false e = e ∙ sym (same_turned v u e)
 
   -- what is not u is in scope where it is in the scope of u
   apart_in : (u : Var) (s free : Var → Bool) → ((v : Var) → IsTrue (free v) → IsTrue (same v u || s v)) → (v : Var) → IsTrue (not (same u v) && free v) → IsTrue (s v)
@@ -209,17 +215,6 @@ module _ (outer : Var → Bool) (next : ℕ) where
       ))
 
   -- ---- sums and names
-
-  rises_told : (n : ℕ) (ts : List (Var × ℤ)) → Tells (rises_from n ts) (RisesFrom n ts)
-  rises_told n [] = (λ h. tt, λ h. refl)
-  rises_told n (t ∷ ts) = tells (rises_from n (t ∷ ts)) ((n ≤ t.0.number) × ((t.0.bag ≡ false) × ((¬ (t.1 ≡ pos 0)) × RisesFrom (suc t.0.number) ts))) (RisesFrom n (t ∷ ts))
-      (tells_both (nat_le n t.0.number) (not t.0.bag && (not (int_eq t.1 (pos 0)) && rises_from (suc t.0.number) ts)) (n ≤ t.0.number) ((t.0.bag ≡ false) × ((¬ (t.1 ≡ pos 0)) × RisesFrom (suc t.0.number) ts)) (tells_le n t.0.number)
-      (tells_both (not t.0.bag) (not (int_eq t.1 (pos 0)) && rises_from (suc t.0.number) ts) (t.0.bag ≡ false) ((¬ (t.1 ≡ pos 0)) × RisesFrom (suc t.0.number) ts) (tells_not t.0.bag)
-      (tells_both (not (int_eq t.1 (pos 0))) (rises_from (suc t.0.number) ts) (¬ (t.1 ≡ pos 0)) (RisesFrom (suc t.0.number) ts) (not_true (int_eq t.1 (pos 0)) (t.1 ≡ pos 0) (int_told t.1)) (rises_told (suc t.0.number) ts))))
-      (λ h. (h.0, h.1.0, h.1.1.0, h.1.1.1)) (λ h. (h.0, (h.1, (h.2, h.3))))
-    where
-      int_told : (z : ℤ) → Tells (int_eq z (pos 0)) (z ≡ pos 0)
-      int_told z = (λ h. (Decides-int_eq z (pos 0)).0 h, λ h. (Decides-int_eq z (pos 0)).1 h)
 
   terms_told : (s : Var → Bool) (ts : List (Var × ℤ)) → Tells (list_all (λ t. s t.0) ts) ((v : Var) → IsTrue (list_any (λ t. same t.0 v) ts) → IsTrue (s v))
   terms_told s [] = (λ h v k. none k, λ h. refl)

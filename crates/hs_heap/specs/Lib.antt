@@ -5,3 +5,8 @@ pub mod Variables
 pub mod WellFormed
 pub mod Sound
 pub mod Tests
+pub mod Renamed
+pub mod Instance
+pub mod Laws
+pub mod Seen
+pub mod Names

@@ -13,6 +13,8 @@ use Rattle.hs_heap.specs.declared.definitions.NodeDef.{NodeDef}
 use Rattle.hs_heap.specs.declared.definitions.PredDef.{PredDef}
 use Rattle.hs_heap.specs.declared.definitions.Lemma.{Lemma}
 use Rattle.hs_heap.specs.declared.definitions.Defs.{Defs}
+use Rattle.hs_heap.specs.declared.node.HeapNode.{HeapNode}
+use Rattle.hs_heap.specs.Heap.{Heap}
 use Rattle.hs_heap.specs.Meaning.{is_in, pred_at, self_var}
 use Rattle.hs_heap.specs.Variables.{is_free_in_disjunct, occurs_in_disjunct}
 use Rattle.hs_heap.specs.WellFormed.{is_and, IsWellFormed}
@@ -51,6 +53,14 @@ argument_kinds defs (Pred n) = option_map (λ p. kinds p.params) (pred_at defs n
 -- the root is a number, what the atom is of is there, and the arguments are as many and of the right kinds
 abbrev pub AtomFits : Defs → Atom → Type 0
 AtomFits defs a = (a.root.bag ≡ false) × (argument_kinds defs a.of ≡ Some (kinds a.args))
+
+-- the data type is there, and there is a value for each field
+abbrev pub NodeFits : Defs → HeapNode → Type 0
+NodeFits defs n = option_map (λ d. length d.fields) (node_at defs n.of) ≡ Some (length n.values)
+
+-- each node of a heap fits
+abbrev pub HeapFits : Defs → Heap → Type 0
+HeapFits defs h = All (λ e. NodeFits defs e.1) h
 
 -- a pure formula beside the free variables of a formula
 pub record PureFits (free : List Var) (next : ℕ) (p : Pure) : Type 0 where

@@ -92,3 +92,11 @@ pub record IsWellFormed (p : Pure) : Type 0 where
   pub members : All (λ n. ¬ (n ≡ 1)) (member_counts p)
   -- no bag literal stands under a quantifier or an AllOf
   pub plain : IsTrue (is_bags_plain p)
+
+-- the same but for lightness: formulas of derivations may be heavy
+pub record IsProper (p : Pure) : Type 0 where
+  pub ordered : IsOrdered p
+  pub bags : All (λ v. v.bag ≡ true) (bag_names p)
+  pub binders : (u : Var) → IsTrue (is_bound u p) → u.bag ≡ false
+  pub members : All (λ n. ¬ (n ≡ 1)) (member_counts p)
+  pub plain : IsTrue (is_bags_plain p)
