@@ -1,0 +1,6 @@
+mod Used
+mod Bodies
+mod Formed
+mod Places
+mod Shown
+mod Levels

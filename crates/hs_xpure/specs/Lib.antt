@@ -1,0 +1,3 @@
+pub mod Approximation
+pub mod Invariants
+pub mod Laws
