@@ -1,11 +1,11 @@
 -- An instantiated body means the body at the values of the root and the arguments.
-use Rattle.std.proofs.Common.{◌≡◌, ℕ, zero, suc, ◌+◌, ◌<◌, ◌≤◌, ℤ, pos, Bool, true, false, not, ◌&&◌, ◌||◌, IsTrue, ◌⊎◌, inl, inr, List, [], ◌∷◌, map, refl, sym, ap, ◌∙◌, subst, if◌then◌else◌, slice_get, arith}
+use Rattle.std.proofs.Common.{◌≡◌, ℕ, zero, suc, ◌+◌, ◌<◌, pos, Bool, true, false, not, ◌||◌, IsTrue, ◌⊎◌, inl, inr, List, [], ◌∷◌, map, refl, sym, ap, ◌∙◌, subst, slice_get, arith}
 use Rattle.std.specs.List.{list_any, All}
 use Rattle.std.proofs.lemmas.Bool.{or_cases, and_from}
-use Rattle.std.proofs.lemmas.List.Elements.{All-nil, All-cons, All-head, All-tail, All-map}
+use Rattle.std.proofs.lemmas.List.Elements.{All-nil, All-cons, All-head, All-tail}
 use Rattle.hs_pure.specs.declared.var.Var.{Var}
 use Rattle.hs_pure.specs.declared.pure.Pure.{Pure}
-use Rattle.hs_pure.specs.Stack.{Stack, Value, same, with_value, number_value, bag_value}
+use Rattle.hs_pure.specs.Stack.{Stack, Value, same, with_value, number_value}
 use Rattle.hs_pure.specs.Occurs.{is_free, is_bound, occurs}
 use Rattle.hs_pure.specs.Truth.{TrueAt}
 use Rattle.hs_pure.specs.Sums.{KeepsKinds}
@@ -15,26 +15,25 @@ use Rattle.hs_heap.specs.declared.formula.Atom.{Atom}
 use Rattle.hs_heap.specs.declared.formula.Disjunct.{Disjunct}
 use Rattle.hs_heap.specs.declared.definitions.Defs.{Defs}
 use Rattle.hs_heap.specs.Heap.{Heap}
-use Rattle.hs_heap.specs.Meaning.{Argument, Meaning, argument_at, parameter_value, is_in, self_var, with_arguments, pred_at, FormulaHolds}
-use Rattle.hs_heap.specs.Variables.{in_atom, is_free_in_disjunct, is_free_in_formula, occurs_in_disjunct, occurs_in_formula}
-use Rattle.hs_heap.specs.WellFormed.{is_and}
+use Rattle.hs_heap.specs.Meaning.{Meaning, argument_at, parameter_value, is_in, self_var, with_arguments, pred_at, FormulaHolds}
+use Rattle.hs_heap.specs.Variables.{is_free_in_disjunct, is_free_in_formula, occurs_in_disjunct, occurs_in_formula}
 use Rattle.hs_heap.specs.declared.formula.Of.{Of}
 use Rattle.hs_heap.specs.declared.formula.Of.TheVariants.{Node, Pred}
 use Rattle.hs_heap.specs.declared.definitions.PredDef.{PredDef}
 use Rattle.hs_heap.specs.declared.definitions.Lemma.{Lemma}
 use Rattle.hs_heap.specs.Sound.{AtomFits, PureFits, DisjunctFits, PredIsSound, LemmaIsSound, IsSound, kinds}
 use Rattle.hs_heap.proofs.Stacks.{same_true, same_itself, same_turned, with_value-other, same_is, SameBut-refl, SameBut-none}
-use Rattle.hs_heap.specs.Renamed.{renamed_disjunct, is_bound_in_disjunct, is_bound_in_formula, DisjunctKeepsApart}
-use Rattle.hs_heap.specs.Instance.{Body, CaseFits, BodyFits, body_of, body_of_pred, body_of_inv, body_of_lemma, body_or_none, lemma_at, conjunct_alone, is_named, is_other_var, is_other, count_below, put_arguments, new_number, body_renaming, instantiated, next_after, stack_of_body}
+use Rattle.hs_heap.specs.Renamed.{is_bound_in_disjunct, is_bound_in_formula, DisjunctKeepsApart}
+use Rattle.hs_heap.specs.Instance.{Body, CaseFits, BodyFits, body_of, body_of_pred, body_of_inv, body_of_lemma, body_or_none, lemma_at, conjunct_alone, is_named, is_other_var, is_other, count_below, put_arguments, new_number, body_renaming, instantiated, stack_of_body}
 use Rattle.hs_heap.proofs.Booleans.{bool_cases, or_false_left, or_false_right, clash, not_of_false}
-use Rattle.hs_heap.proofs.Free.{Agree-sym, cases_agree}
+use Rattle.hs_heap.proofs.Free.{cases_agree}
 use Rattle.hs_heap.proofs.Renaming.{before, cases_renamed, renamed_cases}
-use Rattle.hs_heap.proofs.Occurring.{bound-occurs_of}
+use Rattle.hs_heap.proofs.Occurring.{bound_occurs}
 use Rattle.hs_heap.proofs.Counts.{count-passes, count-tells}
 use Rattle.hs_heap.proofs.Lists.{any_forth}
 use Rattle.hs_heap.proofs.Sources.{cases_source, cases_bound_source, cases_occurs_source}
 use Rattle.hs_heap.specs.Laws.{IsNew}
-use Rattle.hs_heap.proofs.Cleaning.{of_kind, clean, KindsFit}
+use Rattle.hs_heap.proofs.Cleaning.{clean, KindsFit}
 use Rattle.hs_heap.proofs.CleaningHeaps.{HasNumberRoot, CaseKindsFit, value_of_kind, cases_clean, clean_cases}
 
 -- ---- arguments in the place of parameters
@@ -91,23 +90,10 @@ put-value (w ∷ ws) (a ∷ args) e s z v k i = elim (bool_cases (same w v)) [
 
 -- ---- bodies
 
-some_bound_occurs : (u : Var) (ps : List Pure) → IsTrue (list_any (is_bound u) ps) → IsTrue (list_any (occurs u) ps)
-some_bound_occurs u [] e = e
-some_bound_occurs u (p ∷ ps) e = elim (or_cases (is_bound u p) (list_any (is_bound u) ps) e) [
-  | inl k ↦ or_left (occurs u p) (list_any (occurs u) ps) (bound-occurs_of u p k)
-  | inr k ↦ or_right (occurs u p) (list_any (occurs u) ps) (some_bound_occurs u ps k)
-]
-
-bound_occurs : (d : Disjunct) (u : Var) → IsTrue (is_bound_in_disjunct u d) → IsTrue (occurs_in_disjunct u d)
-bound_occurs d u i = elim (or_cases (is_in u d.bound) (list_any (is_bound u) d.pure) i) [
-  | inl k ↦ or_left (is_in u d.bound) (list_any (in_atom u) d.atoms || list_any (occurs u) d.pure) k
-  | inr k ↦ or_right (is_in u d.bound) (list_any (in_atom u) d.atoms || list_any (occurs u) d.pure) (or_right (list_any (in_atom u) d.atoms) (list_any (occurs u) d.pure) (some_bound_occurs u d.pure k))
-]
-
 cases_bound_occurs : (ds : List Disjunct) (u : Var) → IsTrue (list_any (is_bound_in_disjunct u) ds) → IsTrue (list_any (occurs_in_disjunct u) ds)
 cases_bound_occurs [] u e = e
 cases_bound_occurs (d ∷ ds) u e = elim (or_cases (is_bound_in_disjunct u d) (list_any (is_bound_in_disjunct u) ds) e) [
-  | inl k ↦ or_left (occurs_in_disjunct u d) (list_any (occurs_in_disjunct u) ds) (bound_occurs d u k)
+  | inl k ↦ or_left (occurs_in_disjunct u d) (list_any (occurs_in_disjunct u) ds) (bound_occurs u d k)
   | inr k ↦ or_right (occurs_in_disjunct u d) (list_any (occurs_in_disjunct u) ds) (cases_bound_occurs ds u k)
 ]
 
@@ -167,7 +153,7 @@ module _ (defs : Defs) (b : Body) (root : Var) (args : List Var) (fresh : ℕ) (
   keeps_apart [] inside f = All-nil (DisjunctKeepsApart ρ)
   keeps_apart (d ∷ ds) inside f = All-cons (DisjunctKeepsApart ρ) d ds
       (λ u v i o e. apart u v (bound_unnamed d (All-head (CaseFits defs (self_var ∷ b.params) b.next) d ds f) u i)
-      (inside u (or_left (occurs_in_disjunct u d) (list_any (occurs_in_disjunct u) ds) (bound_occurs d u i)))
+      (inside u (or_left (occurs_in_disjunct u d) (list_any (occurs_in_disjunct u) ds) (bound_occurs u d i)))
       (inside v (or_left (occurs_in_disjunct v d) (list_any (occurs_in_disjunct v) ds) o)) e)
       (keeps_apart ds (λ v o. inside v (or_right (occurs_in_disjunct v d) (list_any (occurs_in_disjunct v) ds) o)) (All-tail (CaseFits defs (self_var ∷ b.params) b.next) d ds f))
 

@@ -1,15 +1,15 @@
 -- What formulas of fitting kinds hold of depends on the parts of values that are of their variables' kinds.
-use Rattle.std.proofs.Common.{◌≡◌, Bool, true, false, inl, inr, List, [], ◌∷◌, map, refl, sym, ◌∙◌, ap, subst, if◌then◌else◌}
+use Rattle.std.proofs.Common.{◌≡◌, true, false, inl, inr, List, [], ◌∷◌, map, refl, sym, ◌∙◌, ap, subst}
 use Rattle.std.specs.List.{All}
 use Rattle.std.proofs.lemmas.List.Elements.{All-head, All-tail}
 use mathlib.Core.Path.{fun_ext}
 use Rattle.hs_pure.specs.declared.var.Var.{Var}
 use Rattle.hs_pure.specs.declared.pure.Pure.{Pure}
-use Rattle.hs_pure.specs.Stack.{Stack, Value, number_value, bag_value}
+use Rattle.hs_pure.specs.Stack.{Stack}
 use Rattle.hs_heap.specs.declared.formula.Atom.{Atom}
 use Rattle.hs_heap.specs.declared.formula.Disjunct.{Disjunct}
 use Rattle.hs_heap.specs.Heap.{Heap}
-use Rattle.hs_heap.specs.Meaning.{Meaning, argument_at, parameter_value, is_in, SameBut, AllTrueAt, AtomsHold, DisjunctHolds, SomeHolds}
+use Rattle.hs_heap.specs.Meaning.{Meaning, argument_at, parameter_value, is_in, AllTrueAt, AtomsHold, DisjunctHolds, SomeHolds}
 use Rattle.hs_heap.proofs.Stacks.{with_values, with_values-in, with_values-out, SameBut-with_values}
 use Rattle.hs_heap.proofs.Agree.{OfHolds-same}
 use Rattle.hs_heap.proofs.Booleans.{bool_cases}

@@ -1,12 +1,12 @@
 -- New numbers keep apart: those of a body, and those of what a disjunct binds.
-use Rattle.std.proofs.Common.{◌≡◌, ℕ, zero, suc, ◌+◌, ◌<◌, ◌≤◌, Bool, true, false, ◌||◌, ◌⊎◌, inl, inr, if◌then◌else◌, refl, sym, ap, ◌∙◌, arith}
+use Rattle.std.proofs.Common.{◌≡◌, ℕ, zero, suc, ◌<◌, ◌≤◌, Bool, true, false, ◌⊎◌, inl, inr, refl, ap, arith}
 use Rattle.hs_heap.specs.Instance.{count_below}
 use Rattle.hs_heap.proofs.Booleans.{bool_cases}
 
-count-yes : (t : ℕ → Bool) (n : ℕ) → t n ≡ true → count_below t (suc n) ≡ suc (count_below t n)
+pub count-yes : (t : ℕ → Bool) (n : ℕ) → t n ≡ true → count_below t (suc n) ≡ suc (count_below t n)
 count-yes t n e = rw e refl
 
-count-no : (t : ℕ → Bool) (n : ℕ) → t n ≡ false → count_below t (suc n) ≡ count_below t n
+pub count-no : (t : ℕ → Bool) (n : ℕ) → t n ≡ false → count_below t (suc n) ≡ count_below t n
 count-no t n e = rw e refl
 
 pub count-grows : (t : ℕ → Bool) (n : ℕ) → count_below t n ≤ count_below t (suc n)
@@ -35,7 +35,7 @@ count-passes t m n e less =
     let g = count-rises t (suc m) n less in
     omega arith
 
-nat_cases : (m n : ℕ) → (m < n) ⊎ ((m ≡ n) ⊎ (n < m))
+pub nat_cases : (m n : ℕ) → (m < n) ⊎ ((m ≡ n) ⊎ (n < m))
 nat_cases zero zero = inr (inl refl)
 nat_cases zero (suc n) = inl (omega arith)
 nat_cases (suc m) zero = inr (inr (omega arith))

@@ -1,11 +1,10 @@
 -- What holds depends on the free variables alone.
-use Rattle.std.proofs.Common.{ℤ, ◌≡◌, Bool, true, false, not, ◌&&◌, ◌||◌, IsTrue, inl, inr, List, [], ◌∷◌, map, refl, sym, ◌∙◌, ap}
+use Rattle.std.proofs.Common.{◌≡◌, Bool, not, ◌||◌, inl, inr, List, [], ◌∷◌, map, refl, sym, ◌∙◌, ap}
 use Rattle.std.specs.List.{list_any}
 use Rattle.std.proofs.lemmas.Bool.{and_from}
 use Rattle.hs_pure.specs.declared.var.Var.{Var}
 use Rattle.hs_pure.specs.declared.pure.Pure.{Pure}
 use Rattle.hs_pure.specs.Stack.{Stack, Value, same, same as same_of}
-use Rattle.hs_pure.specs.Truth.{TrueAt}
 use Rattle.hs_pure.specs.Occurs.{is_free}
 use Rattle.hs_pure.proofs.Agree.{Agree, truth-agree}
 use Rattle.hs_pure.proofs.Vars.{or_left, or_right}

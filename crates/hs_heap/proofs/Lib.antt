@@ -19,3 +19,10 @@ pub mod Renaming
 pub mod Sources
 pub mod Bodies
 pub mod Satisfied
+pub mod Places
+pub mod Fitting
+pub mod Tops
+pub mod Seeing
+pub mod SameNames
+pub mod Naming
+pub mod Instances

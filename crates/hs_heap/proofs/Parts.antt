@@ -22,7 +22,7 @@ use Rattle.hs_pure.proofs.Levels.{map_Pure-map_Pure, map_Bag-map_Bag}
 use Rattle.hs_heap.specs.WellFormed.{names_in_bag, names_in_bag_level, bag_names, bag_names_level, member_counts, member_counts_level}
 use Rattle.hs_heap.specs.Sound.{IsNumbered}
 use Rattle.hs_heap.specs.Tests.{number_fits, rises_from, is_light, sum_fits, bag_fits, bag_fits_level, binder_fits, pure_fits, pure_fits_level}
-use Rattle.hs_heap.proofs.Stacks.{same_true, same_itself, same_turned}
+use Rattle.hs_heap.proofs.Stacks.{same_true, same_itself, same_sym}
 use Rattle.hs_heap.proofs.Tells.{Tells, tells, tells_both, tells_not, not_true, tells_le, tells_lt, tells_different, either_all}
 
 -- what is told of a formula, and the parts that it is told of
@@ -128,13 +128,6 @@ module _ (outer : Var → Bool) (next : ℕ) where
       ))
 
   -- ---- what is bound
-
-  same_sym : (u v : Var) → same u v ≡ same v u
-  same_sym u v = go (same u v) refl
-    where
-      go : (b : Bool) → same u v ≡ b → same u v ≡ same v u
-      go true e = subst (λ w. same u w ≡ same w u) (same_true u v e) refl
-      go false e = e ∙ sym (same_turned v u e)
 
   -- what is not u is in scope where it is in the scope of u
   apart_in : (u : Var) (s free : Var → Bool) → ((v : Var) → IsTrue (free v) → IsTrue (same v u || s v)) → (v : Var) → IsTrue (not (same u v) && free v) → IsTrue (s v)

@@ -1,27 +1,28 @@
 -- A renamed formula holds at a stack where the formula holds at the stack before the renaming.
-use Rattle.std.proofs.Common.{if◌then◌else◌, ℤ, ◌≡◌, Bool, true, false, not, ◌&&◌, ◌||◌, IsTrue, inl, inr, List, [], ◌∷◌, map, refl, sym, ◌∙◌, ap, subst}
+use Rattle.std.proofs.Common.{if◌then◌else◌, ◌≡◌, Bool, true, false, not, ◌||◌, IsTrue, inl, inr, List, [], ◌∷◌, map, refl, sym, ◌∙◌, ap, subst}
 use Rattle.std.specs.List.{list_any, All}
 use Rattle.std.proofs.lemmas.Bool.{or_cases, and_from}
 use Rattle.std.proofs.lemmas.List.Elements.{All-head, All-tail}
 use Rattle.hs_pure.specs.declared.var.Var.{Var}
 use Rattle.hs_pure.specs.declared.pure.Pure.{Pure}
-use Rattle.hs_pure.specs.Stack.{Stack, Value, same, with_value}
+use Rattle.hs_pure.specs.Stack.{Stack, same, with_value}
 use Rattle.hs_pure.specs.Occurs.{is_free, is_bound, occurs}
 use Rattle.hs_pure.specs.Rename.{renamed, KeepsApart}
 use Rattle.hs_pure.specs.Sums.{KeepsKinds}
 use Rattle.hs_pure.proofs.Agree.{Agree}
-use Rattle.hs_pure.proofs.Renamed.{truth-renamed, free-occurs_of}
+use Rattle.hs_pure.proofs.Renamed.{truth-renamed}
 use Rattle.hs_pure.proofs.Vars.{or_left, or_right}
 use Rattle.hs_heap.specs.declared.formula.Atom.{Atom}
 use Rattle.hs_heap.specs.declared.formula.Disjunct.{Disjunct}
 use Rattle.hs_heap.specs.Heap.{Heap}
-use Rattle.hs_heap.specs.Meaning.{Argument, Number, Elements, Meaning, argument_at, is_in, SameBut, AllTrueAt, AtomsHold, DisjunctHolds, SomeHolds}
-use Rattle.hs_heap.specs.Variables.{in_atom, is_free_in_disjunct, occurs_in_disjunct}
-use Rattle.hs_heap.proofs.Stacks.{same_true, same_itself, same_turned, with_value-same, with_value-other, with_values, with_values-in, with_values-out, SameBut-with_values, same_is}
+use Rattle.hs_heap.specs.Meaning.{Number, Elements, Meaning, argument_at, is_in, SameBut, AllTrueAt, AtomsHold, DisjunctHolds, SomeHolds}
+use Rattle.hs_heap.specs.Variables.{in_atom, is_free_in_disjunct}
+use Rattle.hs_heap.proofs.Stacks.{same_true, same_itself, same_turned, with_value-other, with_values, with_values-in, with_values-out, SameBut-with_values, same_is}
 use Rattle.hs_heap.proofs.Agree.{OfHolds-same}
-use Rattle.hs_heap.specs.Renamed.{renamed_atom, renamed_disjunct, is_bound_in_disjunct, DisjunctKeepsApart}
+use Rattle.hs_heap.specs.Renamed.{renamed_atom, renamed_disjunct, DisjunctKeepsApart}
+use Rattle.hs_heap.proofs.Occurring.{stands_occurs}
 use Rattle.hs_heap.proofs.Booleans.{bool_cases, or_false_left, or_false_right, clash, not_of_false}
-use Rattle.hs_heap.proofs.Free.{Agree-sym, all_true_agrees, atoms_agree, stands}
+use Rattle.hs_heap.proofs.Free.{all_true_agrees, atoms_agree, stands}
 
 -- the stack before a renaming
 abbrev pub before : (Var → Var) → Stack → Stack
@@ -101,22 +102,8 @@ module _ (ρ : Var → Var) where
           (h1, h2, parts, OfHolds-same x a.of h1 refl (sym (arguments_before s a.args)) one, renamed_atoms rest s h2 more)
 
       module _ (d : Disjunct) (s t : Stack) (same_free : Agree (λ v. is_free_in_disjunct v d) (before ρ s) t) (c : DisjunctKeepsApart ρ d) where
-        -- what stands occurs
-        stands_occurs : (v : Var) → IsTrue (stands x d v) → IsTrue (occurs_in_disjunct v d)
-        stands_occurs v e = or_right (is_in v d.bound) (list_any (in_atom v) d.atoms || list_any (occurs v) d.pure) (elim (or_cases (list_any (in_atom v) d.atoms) (list_any (is_free v) d.pure) e) [
-          | inl a ↦ or_left (list_any (in_atom v) d.atoms) (list_any (occurs v) d.pure) a
-          | inr p ↦ or_right (list_any (in_atom v) d.atoms) (list_any (occurs v) d.pure) (some_occurs d.pure p)
-        ])
-          where
-            some_occurs : (ps : List Pure) → IsTrue (list_any (is_free v) ps) → IsTrue (list_any (occurs v) ps)
-            some_occurs [] e = e
-            some_occurs (p ∷ ps) e = elim (or_cases (is_free v p) (list_any (is_free v) ps) e) [
-              | inl k ↦ or_left (occurs v p) (list_any (occurs v) ps) (free-occurs_of p v k)
-              | inr k ↦ or_right (occurs v p) (list_any (occurs v) ps) (some_occurs ps k)
-            ]
-
         bound_apart : (v : Var) → IsTrue (stands x d v) → (b : Var) → is_in b d.bound ≡ true → ρ b ≡ ρ v → b ≡ v
-        bound_apart v e b i = c b v (or_left (is_in b d.bound) (list_any (is_bound b) d.pure) i) (stands_occurs v e)
+        bound_apart v e b i = c b v (or_left (is_in b d.bound) (list_any (is_bound b) d.pure) i) (stands_occurs v d e)
 
         each_apart : EachApart ρ d.pure
         each_apart u v b o = c u v (or_right (is_in u d.bound) (list_any (is_bound u) d.pure) b)

@@ -1,11 +1,9 @@
 -- Satisfaction at each depth, as the layers above use it.
-use Rattle.std.proofs.Common.{◌≡◌, ◌↔◌, ℕ, Bool, true, false, IsTrue, List, [], ◌∷◌, map, refl, sym, ap, ◌∙◌}
-use Rattle.std.specs.List.{list_any, All}
+use Rattle.std.proofs.Common.{◌≡◌, ℕ, IsTrue, [], map, refl, sym, ap, ◌∙◌}
+use Rattle.std.specs.List.{All}
 use Rattle.hs_pure.specs.declared.var.Var.{Var}
 use Rattle.hs_pure.specs.declared.pure.Pure.{Pure}
 use Rattle.hs_pure.specs.Stack.{Stack}
-use Rattle.hs_pure.specs.Sums.{KeepsKinds}
-use Rattle.hs_heap.specs.declared.formula.Atom.{Atom}
 use Rattle.hs_heap.specs.declared.formula.Disjunct.{Disjunct}
 use Rattle.hs_heap.specs.declared.formula.Formula.{Formula}
 use Rattle.hs_heap.specs.declared.definitions.Defs.{Defs}
@@ -13,7 +11,6 @@ use Rattle.hs_heap.specs.Heap.{Heap}
 use Rattle.hs_heap.specs.Meaning.{argument_at, parameter_value, meaning_at_depth, SatisfiesAtDepth}
 use Rattle.hs_heap.specs.Variables.{is_free_in_formula}
 use Rattle.hs_heap.specs.WellFormed.{IsProper}
-use Rattle.hs_heap.specs.Renamed.{renamed_formula, FormulaKeepsApart}
 use Rattle.hs_heap.specs.Instance.{body_of_inv, instantiated_inv, stack_of_body}
 use Rattle.hs_heap.specs.Laws.{ConjunctsAreOfFree, AtomsAreOfVariables, SatisfactionIsOfFree, HasKinds, SatisfactionIsOfKinds, RenamedIsSatisfied, RenamedVariables, SoundBodiesFit, InstantiatedMeansBody, InstantiatedMeansInvariant, InstantiatedBindsNew}
 use Rattle.hs_heap.proofs.Free.{all_true_agrees, atoms_agree, cases_agree}

@@ -65,7 +65,7 @@ like_node_told : (o : Option NodeDef) (args : List Var) → Tells (is_like_node 
 like_node_told None args = (λ h. absurd cc, λ h. absurd cc)
 like_node_told (Some d) args = tells (is_like_node (Some d) args) (map (λ f. false) d.fields ≡ kinds args) (option_map (λ (d : NodeDef). map (λ f. false) d.fields) (Some d) ≡ Some (kinds args)) (numbers_told d.fields args) (λ e. ap (λ ks. Some ks) e) (λ e. cc)
 
-arguments_told : (defs : Defs) (of : Of) (args : List Var) → Tells (arguments_fit defs of args) (argument_kinds defs of ≡ Some (kinds args))
+pub arguments_told : (defs : Defs) (of : Of) (args : List Var) → Tells (arguments_fit defs of args) (argument_kinds defs of ≡ Some (kinds args))
 arguments_told defs (Node n) args = like_node_told (node_at defs n) args
 arguments_told defs (Pred n) args = like_pred_told (pred_at defs n) args
 
@@ -172,7 +172,7 @@ module _ (defs : Defs) (free : List Var) (next : ℕ) (numbered : (v : Var) → 
   scope_numbered : ((v : Var) → IsTrue (is_in v d.bound) → IsNumbered next v) → ScopeNumbered
   scope_numbered bound = either_all (λ v. is_in v d.bound) (λ v. is_in v free) (IsNumbered next) bound numbered
 
-  disjunct_told : Tells (disjunct_fits defs (listed free) next d) (DisjunctFits defs free next d)
+  pub disjunct_told : Tells (disjunct_fits defs (listed free) next d) (DisjunctFits defs free next d)
   disjunct_told = tells (disjunct_fits defs (listed free) next d) Test (DisjunctFits defs free next d) disjunct_test
       (λ h. let ok : ScopeNumbered = scope_numbered (λ v b. (h.1.0 v b).0) in from_parts h.0 h.1.0 ok (atoms_told.0 h.1.1.0) ((conjuncts_told ok).0 h.1.1.1))
       (λ h.

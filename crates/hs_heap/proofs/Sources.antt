@@ -1,5 +1,5 @@
 -- What is free in a renamed formula is what some free variable becomes, and so for what is bound and what occurs.
-use Rattle.std.proofs.Common.{◌≡◌, ℕ, ℤ, pos, ◌+ℤ◌, Bool, true, false, not, ◌&&◌, ◌||◌, nat_lt, IsTrue, ◌⊎◌, inl, inr, List, [], ◌∷◌, ◌++◌, map, if◌then◌else◌, refl, sym, ap, ◌∙◌, subst}
+use Rattle.std.proofs.Common.{◌≡◌, ℤ, pos, ◌+ℤ◌, Bool, true, false, not, ◌&&◌, ◌||◌, nat_lt, IsTrue, ◌⊎◌, inl, inr, List, [], ◌∷◌, map, refl, sym, ap, ◌∙◌, subst}
 use Rattle.std.specs.List.{list_any, fold}
 use Rattle.std.specs.Ordering.{int_eq}
 use Rattle.std.proofs.lemmas.Bool.{or_cases, and_parts, and_from}
@@ -9,7 +9,7 @@ use Rattle.hs_pure.specs.declared.pure.Pure.{Pure}
 use Rattle.hs_pure.specs.Stack.{same}
 use Rattle.hs_pure.specs.Assertion.{BagTerm, empty, name, one, union, inter, diff, Assertion, truth, eq, lt, le, divides, bag_eq, subset, member, all_of, negation, both, either, exists, forall, assertion_of}
 use Rattle.hs_pure.specs.Occurs.{in_lin, is_free, is_bound, occurs}
-use Rattle.hs_pure.specs.Rename.{add_term, renamed_terms, renamed_lin, renamed}
+use Rattle.hs_pure.specs.Rename.{add_term, renamed_lin, renamed}
 use Rattle.hs_pure.specs.Mirror.{in_bag_term, is_free_in, is_bound_in, renamed_term, renamed_assertion}
 use Rattle.hs_pure.proofs.Mirrored.{is_free-is, is_bound-is}
 use Rattle.hs_pure.proofs.Renamed.{assertion_of-renamed}

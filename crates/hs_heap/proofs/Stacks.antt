@@ -1,5 +1,5 @@
 -- Changes of a stack.
-use Rattle.std.proofs.Common.{◌≡◌, Bool, true, false, List, [], ◌∷◌, refl, subst, if◌then◌else◌}
+use Rattle.std.proofs.Common.{◌≡◌, Bool, true, false, List, [], ◌∷◌, refl, sym, ◌∙◌, subst, if◌then◌else◌}
 use Rattle.std.proofs.lemmas.Bool.{and_parts, and_from, or_parts, eqb-true, eq-eqb, false_from_ne_true}
 use mathlib.Core.Bool.{beq}
 use mathlib.Core.Path.{fun_ext}
@@ -35,6 +35,13 @@ same_false u v n = false_from_ne_true (same u v) (λ e. n (same_true u v e))
 
 pub same_turned : (u v : Var) → same v u ≡ false → same u v ≡ false
 same_turned u v e = same_false u v (λ is. let back : same v u ≡ true = subst (λ w. same w u ≡ true) is (same_itself u) in cc)
+
+pub same_sym : (u v : Var) → same u v ≡ same v u
+same_sym u v = go (same u v) refl
+  where
+    go : (b : Bool) → same u v ≡ b → same u v ≡ same v u
+    go true e = subst (λ w. same u w ≡ same w u) (same_true u v e) refl
+    go false e = e ∙ sym (same_turned v u e)
 
 pub with_value-same : (u : Var) (x : Value) (s : Stack) → with_value u x s u ≡ x
 with_value-same u x s = rw (same_itself u)

@@ -19,7 +19,7 @@ use Rattle.hs_heap.specs.Variables.{in_atom, is_free_in_formula, occurs_in_formu
 use Rattle.hs_heap.specs.WellFormed.{IsProper}
 use Rattle.hs_heap.specs.Sound.{IsSound}
 use Rattle.hs_heap.specs.Renamed.{renamed_formula, is_bound_in_formula, FormulaKeepsApart, IsImage}
-use Rattle.hs_heap.specs.Instance.{Body, BodyFits, ArgumentsFit, body_of, body_of_pred, body_of_inv, body_of_lemma, body_or_none, lemma_at, instantiated, instantiated_inv, next_after, stack_of_body}
+use Rattle.hs_heap.specs.Instance.{Body, BodyFits, ArgumentsFit, body_of, body_of_inv, body_of_lemma, body_or_none, lemma_at, instantiated, instantiated_inv, next_after, stack_of_body}
 
 -- ---- stacks
 

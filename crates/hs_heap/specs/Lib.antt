@@ -8,3 +8,5 @@ pub mod Tests
 pub mod Renamed
 pub mod Instance
 pub mod Laws
+pub mod Seen
+pub mod Names

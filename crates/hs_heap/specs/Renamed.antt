@@ -1,9 +1,9 @@
 -- Formulas with variables in the place of others, bound ones too.
-use Rattle.std.specs.Prelude.{◌≡◌, Bool, ◌||◌, IsTrue, List, map}
+use Rattle.std.specs.Prelude.{◌≡◌, Bool, ◌||◌, IsTrue, map}
 use Rattle.std.specs.List.{list_any, All}
 use Rattle.hs_pure.specs.declared.var.Var.{Var}
 use Rattle.hs_pure.specs.Occurs.{is_bound}
-use Rattle.hs_pure.specs.Rename.{renamed}
+use Rattle.hs_pure.specs.Rename.{renamed, InRange}
 use Rattle.hs_heap.specs.declared.formula.Atom.{Atom}
 use Rattle.hs_heap.specs.declared.formula.Disjunct.{Disjunct}
 use Rattle.hs_heap.specs.declared.formula.Formula.{Formula}
@@ -38,3 +38,10 @@ FormulaKeepsApart ρ f = All (DisjunctKeepsApart ρ) f.cases
 -- v is what a variable that passes the test becomes
 abbrev pub IsImage : (Var → Var) → (Var → Bool) → Var → Type 0
 IsImage ρ test v = (w : Var) × (IsTrue (test w)) × (v ≡ ρ w)
+
+-- what the terms of each sum of the disjunct add up to, one after another, are numbers of the program
+abbrev pub DisjunctInRange : (Var → Var) → Disjunct → Type 0
+DisjunctInRange ρ d = All (InRange ρ) d.pure
+
+abbrev pub FormulaInRange : (Var → Var) → Formula → Type 0
+FormulaInRange ρ f = All (DisjunctInRange ρ) f.cases

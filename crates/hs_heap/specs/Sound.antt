@@ -14,7 +14,7 @@ use Rattle.hs_heap.specs.declared.definitions.PredDef.{PredDef}
 use Rattle.hs_heap.specs.declared.definitions.Lemma.{Lemma}
 use Rattle.hs_heap.specs.declared.definitions.Defs.{Defs}
 use Rattle.hs_heap.specs.declared.node.HeapNode.{HeapNode}
-use Rattle.hs_heap.specs.Heap.{Heap, Entry}
+use Rattle.hs_heap.specs.Heap.{Heap}
 use Rattle.hs_heap.specs.Meaning.{is_in, pred_at, self_var}
 use Rattle.hs_heap.specs.Variables.{is_free_in_disjunct, occurs_in_disjunct}
 use Rattle.hs_heap.specs.WellFormed.{is_and, IsWellFormed}

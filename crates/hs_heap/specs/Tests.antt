@@ -22,21 +22,23 @@ use Rattle.hs_heap.specs.declared.definitions.Lemma.{Lemma}
 use Rattle.hs_heap.specs.declared.definitions.Defs.{Defs}
 use Rattle.hs_heap.specs.declared.scope.Scope.{Scope, fold-Scope}
 use Rattle.hs_heap.specs.declared.scope.Scope.TheOpen.{Scope-F}
+use Rattle.hs_heap.specs.declared.node.HeapNode.{HeapNode}
 use Rattle.hs_heap.specs.Meaning.{is_in, pred_at, self_var}
 use Rattle.hs_heap.specs.Sound.{node_at}
 use Rattle.hs_heap.specs.WellFormed.{is_and}
 
+abbrev pub number_fits : ℕ → Var → Bool
+number_fits next v = nat_le 1 v.number && nat_lt v.number next
+
 abbrev pub in_scope_level : Scope-F (Var → Bool) → Var → Bool
 in_scope_level (Scope-F.Listed vs) v = is_in v vs.now
+in_scope_level (Scope-F.Numbered vs next) v = number_fits next v && is_in v vs.now
 in_scope_level (Scope-F.With u outer) v = same v u || outer.now v
 in_scope_level (Scope-F.WithAll vs outer) v = is_in v vs.now || outer.now v
 
 -- whether a scope has a variable
 abbrev pub in_scope : Scope → Var → Bool
 in_scope = fold-Scope (Var → Bool) in_scope_level
-
-abbrev pub number_fits : ℕ → Var → Bool
-number_fits next v = nat_le 1 v.number && nat_lt v.number next
 
 -- whether the terms are of number variables from n on, by rising number, without coefficient 0
 abbrev pub rises_from : ℕ → List (Var × ℤ) → Bool
@@ -114,6 +116,11 @@ abbrev pub is_like_node : Option NodeDef → List Var → Bool
 is_like_node None args = false
 is_like_node (Some n) args = (length n.fields == length args) && list_all (λ v. not v.bag) args
 
+-- whether the data type is there and has as many fields
+abbrev pub has_fields : Option NodeDef → ℕ → Bool
+has_fields None count = false
+has_fields (Some n) count = length n.fields == count
+
 -- whether the arguments are as many as the parameters, and of their kinds
 abbrev pub is_like_pred : Option PredDef → List Var → Bool
 is_like_pred None args = false
@@ -130,6 +137,13 @@ module _ (defs : Defs) where
   abbrev pub arguments_fit : Of → List Var → Bool
   arguments_fit (Node n) args = is_like_node (node_at defs n) args
   arguments_fit (Pred n) args = is_like_pred (pred_at defs n) args
+
+  -- the root is a number, and the arguments are as many and of the right kinds
+  abbrev pub atom_alone_fits : Atom → Bool
+  atom_alone_fits a = not a.root.bag && arguments_fit a.of a.args
+
+  abbrev pub node_fits : HeapNode → Bool
+  node_fits n = has_fields (node_at defs n.of) (length n.values)
 
   abbrev pub atom_fits : (Var → Bool) → Atom → Bool
   atom_fits scope a = not a.root.bag && (arguments_fit a.of a.args && (scope a.root && list_all scope a.args))

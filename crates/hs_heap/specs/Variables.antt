@@ -1,9 +1,10 @@
 -- The variables of formulas.
-use Rattle.std.specs.Prelude.{Bool, not, ◌&&◌, ◌||◌}
-use Rattle.std.specs.List.{list_any}
+use Rattle.std.specs.Prelude.{ℕ, max, Bool, not, ◌&&◌, ◌||◌, List}
+use Rattle.std.specs.List.{list_any, fold}
 use Rattle.hs_pure.specs.declared.var.Var.{Var}
+use Rattle.hs_pure.specs.declared.pure.Pure.{Pure}
 use Rattle.hs_pure.specs.Stack.{same}
-use Rattle.hs_pure.specs.Occurs.{is_free, occurs}
+use Rattle.hs_pure.specs.Occurs.{is_free, occurs, top_of}
 use Rattle.hs_heap.specs.declared.formula.Atom.{Atom}
 use Rattle.hs_heap.specs.declared.formula.Disjunct.{Disjunct}
 use Rattle.hs_heap.specs.declared.formula.Formula.{Formula}
@@ -29,3 +30,23 @@ module _ (v : Var) where
   -- whether v occurs in one of the disjuncts, bound or free
   abbrev pub occurs_in_formula : Formula → Bool
   occurs_in_formula f = list_any occurs_in_disjunct f.cases
+
+-- ---- the greatest number that occurs, also of bound variables, or 0
+
+abbrev pub vars_top : List Var → ℕ
+vars_top vs = fold (λ top v. max top v.number) 0 vs
+
+abbrev pub atom_top : Atom → ℕ
+atom_top a = max a.root.number (vars_top a.args)
+
+abbrev pub atoms_top : List Atom → ℕ
+atoms_top atoms = fold (λ top a. max top (atom_top a)) 0 atoms
+
+abbrev pub conjuncts_top : List Pure → ℕ
+conjuncts_top ps = fold (λ top p. max top (top_of p)) 0 ps
+
+abbrev pub disjunct_top : Disjunct → ℕ
+disjunct_top d = max (vars_top d.bound) (max (atoms_top d.atoms) (conjuncts_top d.pure))
+
+abbrev pub disjuncts_top : List Disjunct → ℕ
+disjuncts_top ds = fold (λ top d. max top (disjunct_top d)) 0 ds

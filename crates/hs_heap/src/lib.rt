@@ -9,15 +9,22 @@
 mod copies;
 mod definitions;
 mod formula;
+mod heap;
+mod instance;
 mod laws;
 mod node;
 mod pures;
+mod rename;
 mod scope;
+mod seen;
 mod shared;
 mod sound;
+mod top;
 
 pub use definitions::{Defs, Lemma, NodeDef, PredDef};
 pub use formula::{Atom, Disjunct, Formula, Of};
+pub use heap::Heap;
+pub use instance::{instantiate, instantiate_inv, instantiate_lemma};
 pub use laws::{
     arguments_are_of_variables, atoms_are_of_variables, bound_occurs, conjuncts_are_of_free,
     instantiated_binds_new, instantiated_means_body, instantiated_means_invariant,

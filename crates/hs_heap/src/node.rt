@@ -1,5 +1,9 @@
-ghost use Rattle.std.specs.Prelude.{◌≡◌, IfOk};
+ghost use Rattle.std.specs.Prelude.{◌≡◌, ◌↔◌, IsTrue, IfOk};
+ghost use Rattle.std.specs.Option.{option_copied};
+ghost use Rattle.hs_heap.specs.Sound.{NodeFits};
+ghost use Rattle.hs_heap.specs.Tests.{has_fields, node_fits};
 
+use crate::definitions::{Defs, NodeDef};
 use hs_pure::NoMemory;
 use sqlite_items::Items;
 use std::alloc::Global;
@@ -20,5 +24,27 @@ impl HeapNode {
             of: self.of,
             values: Items::from_slice(alloc, self.values.as_slice())?,
         })
+    }
+
+    /// Whether the data type is there, and the node has one value for each of its fields. It takes no memory.
+    pub fn fits(&self, defs: &Defs) -> bool
+        ensures { IsTrue result ↔ NodeFits defs.now self.now }
+    {
+        self.test(defs)
+    }
+
+    pub(crate) fn test(&self, defs: &Defs) -> bool
+        ensures { result ≡ node_fits defs.now self.now }
+    {
+        has_fields(defs.node(self.of), self.values.len())
+    }
+}
+
+fn has_fields(node: Option<&NodeDef>, count: usize) -> bool
+    ensures { result ≡ has_fields (option_copied node.entry) count }
+{
+    match node {
+        Some(node) => node.fields.len() == count,
+        None => false,
     }
 }

@@ -1,18 +1,19 @@
 ghost use Rattle.std.specs.Prelude.{◌≡◌, ◌↔◌, IsTrue, not};
 ghost use Rattle.std.specs.List.{list_all};
 ghost use Rattle.std.specs.Option.{option_copied};
-ghost use Rattle.hs_heap.specs.Sound.{IsSound, node_at};
+ghost use Rattle.hs_heap.specs.Sound.{IsSound, AtomFits, DisjunctFits, FormulaFits, node_at};
 ghost use Rattle.hs_heap.specs.Meaning.{pred_at};
-ghost use Rattle.hs_heap.specs.Tests.{in_scope, are_distinct, follow_from, same_kinds, is_like_node, is_like_pred, arguments_fit, atom_fits, parts_fit, disjunct_fits, short_fits, bound_fits, conjunct_fits, head_fits, pred_parts_fit, pred_fits, lemma_parts_fit, lemma_fits, defs_fit};
+ghost use Rattle.hs_heap.specs.Instance.{lemma_at};
+ghost use Rattle.hs_heap.specs.Tests.{in_scope, are_distinct, follow_from, same_kinds, is_like_node, is_like_pred, arguments_fit, atom_alone_fits, atom_fits, parts_fit, disjunct_fits, short_fits, bound_fits, conjunct_fits, head_fits, pred_parts_fit, pred_fits, lemma_parts_fit, lemma_fits, defs_fit};
 
 use crate::definitions::{Defs, Lemma, NodeDef, PredDef};
-use crate::formula::{Atom, Disjunct, Of};
+use crate::formula::{Atom, Disjunct, Formula, Of};
 use crate::pures::{is_and, number_fits, plain_fits};
 use crate::scope::{Scope, is_listed};
 use hs_pure::{Pure, Var};
 use hs_text::Text;
 
-const SELF: Var = Var {
+pub(crate) const SELF: Var = Var {
     number: 1,
     bag: false,
 };
@@ -38,7 +39,7 @@ impl Defs {
     }
 
     // The data type of a number from 1.
-    fn node(&self, n: u32) -> Option<&NodeDef>
+    pub(crate) fn node(&self, n: u32) -> Option<&NodeDef>
         ensures { option_copied result ≡ node_at self.now n }
     {
         if n == 0 {
@@ -48,7 +49,7 @@ impl Defs {
     }
 
     // The predicate of a number from 1.
-    fn pred(&self, n: u32) -> Option<&PredDef>
+    pub(crate) fn pred(&self, n: u32) -> Option<&PredDef>
         ensures { option_copied result ≡ pred_at self.now n }
     {
         if n == 0 {
@@ -56,6 +57,53 @@ impl Defs {
         }
         self.preds.as_slice().get(n as usize - 1)
     }
+
+    // The lemma of a number from 1.
+    pub(crate) fn lemma(&self, n: u32) -> Option<&Lemma>
+        ensures { option_copied result ≡ lemma_at self.now n }
+    {
+        if n == 0 {
+            return None;
+        }
+        self.lemmas.as_slice().get(n as usize - 1)
+    }
+}
+
+impl Atom {
+    /// Whether the root is a number, what the atom is of is there, and the arguments are as many and of the right
+    /// kinds. It takes no memory.
+    pub fn fits(&self, defs: &Defs) -> bool
+        ensures { IsTrue result ↔ AtomFits defs.now self.now }
+    {
+        atom_alone_fits(self, defs)
+    }
+}
+
+impl Disjunct {
+    /// Whether the disjunct is well formed over the definitions, with its free variables among `free` and all of
+    /// its numbers from 1 on and below `next`. It takes no memory.
+    pub fn fits(&self, defs: &Defs, free: &[Var], next: u32) -> bool
+        ensures { IsTrue result ↔ DisjunctFits defs.now free.now next self.now }
+    {
+        let free = Scope::Numbered(free, next);
+        disjunct_fits(self, defs, &free, next)
+    }
+}
+
+impl Formula {
+    /// Whether each disjunct fits, as `Disjunct::fits` tells. It takes no memory.
+    pub fn fits(&self, defs: &Defs, free: &[Var], next: u32) -> bool
+        ensures { IsTrue result ↔ FormulaFits defs.now free.now next self.now }
+    {
+        let free = Scope::Numbered(free, next);
+        disjuncts_fit(self.cases.as_slice(), defs, &free, next)
+    }
+}
+
+fn disjuncts_fit(cases: &[Disjunct], defs: &Defs, free: &Scope, next: u32) -> bool
+    ensures { result ≡ list_all (disjunct_fits defs.now (in_scope free.now) next) cases.now }
+{
+    cases.iter().all(|d| disjunct_fits(d, defs, free, next))
 }
 
 fn preds_fit(preds: &[PredDef], defs: &Defs) -> bool
@@ -179,6 +227,12 @@ fn atom_fits(a: &Atom, defs: &Defs, scope: &Scope) -> bool
         && arguments_fit(a.of, a.args.as_slice(), defs)
         && scope.has(a.root)
         && are_in(a.args.as_slice(), scope)
+}
+
+fn atom_alone_fits(a: &Atom, defs: &Defs) -> bool
+    ensures { result ≡ atom_alone_fits defs.now a.now }
+{
+    !a.root.bag && arguments_fit(a.of, a.args.as_slice(), defs)
 }
 
 fn are_in(vs: &[Var], scope: &Scope) -> bool
