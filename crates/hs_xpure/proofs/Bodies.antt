@@ -69,8 +69,8 @@ inv_uses defs p root args n fits at v o =
 -- ---- cases of an instantiated body
 
 -- each case's atoms fit
-abbrev pub CasesFit : Defs → List Disjunct → Type 0
-CasesFit defs ds = AllByRecursion (λ (d : Disjunct). All (AtomFits defs) d.atoms) ds
+abbrev pub CasesAtomsFit : Defs → List Disjunct → Type 0
+CasesAtomsFit defs ds = AllByRecursion (λ (d : Disjunct). All (AtomFits defs) d.atoms) ds
 
 -- what each case binds is numbered from n on
 abbrev pub CasesBindFrom : ℕ → List Disjunct → Type 0
@@ -102,10 +102,10 @@ module _ (defs : Defs) (b : Body) (fits : BodyFits defs b) (root : Var) (args : 
   pub body_uses : Passing (IsPlacedIn (root ∷ args) n (next_after b n)) (λ v. occurs_in_formula v (instantiated b root args n))
   body_uses v o = (instantiated_binds_new defs b root args n fits at v).2 o
 
-  pub body_atoms_fit : CasesFit defs (instantiated b root args n).cases
+  pub body_atoms_fit : CasesAtomsFit defs (instantiated b root args n).cases
   body_atoms_fit = go b.formula.cases fits
     where
-      go : (ds : List Disjunct) → All Fits ds → CasesFit defs (map (renamed_disjunct (body_renaming b root args n)) ds)
+      go : (ds : List Disjunct) → All Fits ds → CasesAtomsFit defs (map (renamed_disjunct (body_renaming b root args n)) ds)
       go [] f = tt
       go (d ∷ ds) f = (atoms_fit_renamed defs (body_renaming b root args n) keeps d.atoms (All-head Fits d ds f).atoms, go ds (All-tail Fits d ds f))
 

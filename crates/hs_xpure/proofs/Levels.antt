@@ -26,12 +26,13 @@ use Rattle.hs_heap.proofs.Stacks.{with_value-same, with_value-other, same_true, 
 use Rattle.hs_heap.proofs.Lists.{listed_forth}
 use Rattle.hs_heap.proofs.Free.{arguments_agree}
 use Rattle.hs_heap.proofs.Satisfied.{instantiated_means_body, instantiated_means_invariant}
-use Rattle.hs_xpure.specs.Approximation.{Formed, Former, unformed, all_apart, address, atoms_formed, body_formed, inv_formed, inv_of, inv_and_body_of, node_formed, of_formed, form, approximation_of, xpure_of, next_of}
+use Rattle.hs_xpure.specs.declared.formed.Formed.{Formed}
+use Rattle.hs_xpure.specs.Approximation.{Former, unformed, all_apart, address, atoms_formed, body_formed, inv_formed, inv_of, inv_and_body_of, node_formed, of_formed, form, approximation_of, xpure_of, next_of}
 use Rattle.hs_xpure.specs.Invariants.{pred_atom, InvariantsHold, InvariantFollows}
 use Rattle.hs_xpure.specs.Laws.{AtomsFit, ApproximationIsTrue, InvariantsAreShown, NewNumbersAreInRange}
 use Rattle.hs_xpure.proofs.Used.{Uses, AllUse, all_use-append, uses_all_apart}
 use Rattle.hs_xpure.proofs.Bodies.{pred_in, no_pred, arguments_fit, pred_kinds, pred_body_fits, pred_inv_fits}
-use Rattle.hs_xpure.proofs.Formed.{IsOldOrNew, FormerFits, AreBelow, InAtom, InAtoms, InArguments, addresses_in, below_later, inv_fits, form_fits, atoms_fit}
+use Rattle.hs_xpure.proofs.Numbers.{IsOldOrNew, FormerFits, AreBelow, InAtom, InAtoms, InArguments, addresses_in, below_later, inv_fits, form_fits, atoms_fit}
 use Rattle.hs_xpure.proofs.Places.{AreAddresses, no_addresses, IsPlace, at_address, all_true-append, true_equal, true_positive}
 use Rattle.hs_xpure.proofs.Shown.{AgreeBelow, IsShown, FormerShows, formed_below, combined_shown, conjunction_true, atoms_shown, body_shown}
 

@@ -13,7 +13,7 @@ use Rattle.hs_heap.specs.Heap.{Heap, Parts, none, left, right, RisesFrom, IsHeap
 use Rattle.hs_heap.specs.Meaning.{AllTrueAt}
 use Rattle.hs_heap.proofs.Splits.{rises_left, swap_parts}
 use Rattle.hs_xpure.specs.Approximation.{address, variable, null, apart, all_apart}
-use Rattle.hs_xpure.proofs.Formed.{Within}
+use Rattle.hs_xpure.proofs.Numbers.{Within}
 
 -- ---- equations of variables
 

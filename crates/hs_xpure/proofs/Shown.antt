@@ -23,11 +23,12 @@ use Rattle.hs_heap.specs.Instance.{Body, BodyFits, ArgumentsFit, instantiated, n
 use Rattle.hs_heap.proofs.Splits.{all_left, all_right, IsHeap-left, IsHeap-right}
 use Rattle.hs_heap.proofs.Booleans.{bool_cases}
 use Rattle.hs_heap.proofs.Satisfied.{atoms_are_of_variables}
-use Rattle.hs_xpure.specs.Approximation.{Formed, Former, combined, conjunction, disjunction, address, all_apart, atoms_formed, case_formed, cases_formed, body_cases, body_formed}
+use Rattle.hs_xpure.specs.declared.formed.Formed.{Formed}
+use Rattle.hs_xpure.specs.Approximation.{Former, combined, conjunction, disjunction, address, all_apart, atoms_formed, case_formed, cases_formed, body_cases, body_formed}
 use Rattle.hs_xpure.specs.Laws.{IsBetween}
 use Rattle.hs_xpure.proofs.Used.{Uses, AllUse, AddressesIn, all_use_weaker, uses_all_apart}
-use Rattle.hs_xpure.proofs.Bodies.{CasesFit, CasesBindFrom, body_atoms_fit, body_binds}
-use Rattle.hs_xpure.proofs.Formed.{IsOldOrNew, Within, FormedFits, FormerFits, AreBelow, InAtom, InAtoms, InPures, InCase, InCases, InArguments, below_later, atoms_in_case, pures_in_case, atoms_fit, case_fits, cases_fit, body_below}
+use Rattle.hs_xpure.proofs.Bodies.{CasesAtomsFit, CasesBindFrom, body_atoms_fit, body_binds}
+use Rattle.hs_xpure.proofs.Numbers.{IsOldOrNew, Within, FormedFits, FormerFits, AreBelow, InAtom, InAtoms, InPures, InCase, InCases, InArguments, below_later, atoms_in_case, pures_in_case, atoms_fit, case_fits, cases_fit, body_below}
 use Rattle.hs_xpure.proofs.Places.{AreAddresses, no_addresses, both_addresses, null_addresses, at_address, AllNull, cut, cut_below, cut_null, all_true-append, IsPlace, Placed}
 
 -- the stacks agree on numbers below n
@@ -202,7 +203,7 @@ module _ (defs : Defs) (depth : ℕ) where
     any_append s (p ∷ ps) qs e = Any-later (TrueAt s) p (ps ++ qs) (any_append s ps qs e)
 
     -- the addresses of the other cases are null
-    cases_shown : (ds : List Disjunct) (n : ℕ) (s : Stack) (h : Heap) → CasesFit defs ds → AreBelow n (InCases ds) → IsHeap h → SomeOpen defs depth s h ds →
+    cases_shown : (ds : List Disjunct) (n : ℕ) (s : Stack) (h : Heap) → CasesAtomsFit defs ds → AreBelow n (InCases ds) → IsHeap h → SomeOpen defs depth s h ds →
         Shown n s h (cases_formed former ds n).addresses (λ t. Any (TrueAt t) (cases_formed former ds n).pure)
     cases_shown [] n s h f low is_heap p = absurd p
     cases_shown (d ∷ ds) n s h (f, fs) low is_heap (inl (pure, atoms)) =

@@ -12,6 +12,7 @@ use Rattle.hs_heap.specs.declared.definitions.PredDef.{PredDef}
 use Rattle.hs_heap.specs.declared.definitions.Defs.{Defs}
 use Rattle.hs_heap.specs.Meaning.{pred_at}
 use Rattle.hs_heap.specs.Instance.{Body, body_of, body_of_inv, instantiated, instantiated_inv, next_after}
+use Rattle.hs_xpure.specs.declared.formed.Formed.{Formed}
 
 -- one formula stands alone
 abbrev pub conjunction : List Pure → Pure
@@ -51,12 +52,6 @@ all_apart (k ∷ ks) = map (apart k) ks ++ all_apart ks
 
 -- ---- atoms, one after another
 
--- conjuncts, the numbers of addresses in them, and the next unused number
-pub record Formed : Type 0 where
-  pub pure : List Pure
-  pub addresses : List ℕ
-  pub next : ℕ
-
 -- nothing, from a number on
 abbrev pub unformed : ℕ → Formed
 unformed n = record { pure = []; addresses = []; next = n }
@@ -73,11 +68,16 @@ abbrev pub atoms_formed : Former → List Atom → ℕ → Formed
 atoms_formed form [] n = unformed n
 atoms_formed form (a ∷ rest) n = combined (form a n) (atoms_formed form rest (form a n).next)
 
--- one conjunct: the atoms, the conjuncts of the case, and its addresses apart
+-- one conjunct: what is formed of the atoms of a case, its conjuncts, and its addresses apart
+abbrev pub case_of : List Pure → Formed → Formed
+case_of ps atoms = record {
+  pure = conjunction (atoms.pure ++ ps ++ all_apart atoms.addresses) ∷ [];
+  addresses = atoms.addresses;
+  next = atoms.next;
+}
+
 abbrev pub case_formed : Former → Disjunct → ℕ → Formed
-case_formed form d n =
-    let atoms = atoms_formed form d.atoms n in
-    record { pure = conjunction (atoms.pure ++ d.pure ++ all_apart atoms.addresses) ∷ []; addresses = atoms.addresses; next = atoms.next }
+case_formed form d n = case_of d.pure (atoms_formed form d.atoms n)
 
 -- a conjunct for each case
 abbrev pub cases_formed : Former → List Disjunct → ℕ → Formed
@@ -88,11 +88,12 @@ cases_formed form (d ∷ ds) n = combined (case_formed form d n) (cases_formed f
 abbrev pub body_cases : Former → Body → Var → List Var → ℕ → Formed
 body_cases form b root args n = cases_formed form (instantiated b root args n).cases (next_after b n)
 
--- one conjunct: the cases of a body, joined by "or"
+-- one conjunct: cases, joined by "or"
+abbrev pub body_of_cases : Formed → Formed
+body_of_cases cases = record { pure = disjunction cases.pure ∷ []; addresses = cases.addresses; next = cases.next }
+
 abbrev pub body_formed : Former → Body → Var → List Var → ℕ → Formed
-body_formed form b root args n =
-    let cases = body_cases form b root args n in
-    record { pure = disjunction cases.pure ∷ []; addresses = cases.addresses; next = cases.next }
+body_formed form b root args n = body_of_cases (body_cases form b root args n)
 
 -- ---- an atom at a level
 

@@ -7,6 +7,7 @@ use Rattle.hs_pure.specs.Stack.{Stack}
 use Rattle.hs_pure.specs.Truth.{TrueAt}
 use Rattle.hs_pure.specs.Occurs.{occurs}
 use Rattle.hs_heap.specs.declared.formula.Atom.{Atom}
+use Rattle.hs_heap.specs.declared.formula.Disjunct.{Disjunct}
 use Rattle.hs_heap.specs.declared.definitions.Defs.{Defs}
 use Rattle.hs_heap.specs.Heap.{Heap, IsHeap}
 use Rattle.hs_heap.specs.Meaning.{AllTrueAt, SatisfiesAtoms}
@@ -23,6 +24,10 @@ IsInAtoms atoms v = IsTrue (list_any (in_atom v) atoms)
 pub record AtomsFit (defs : Defs) (atoms : List Atom) (n : ℕ) : Type 0 where
   pub each : All (AtomFits defs) atoms
   pub below : (v : Var) → IsInAtoms atoms v → v.number < n
+
+-- the same of the atoms of each case
+abbrev pub CasesFit : Defs → List Disjunct → ℕ → Type 0
+CasesFit defs ds n = All (λ d. AtomsFit defs d.atoms n) ds
 
 -- where invariants hold and a heap satisfies the atoms, the approximation is true, for some values of the
 -- numbers from n on

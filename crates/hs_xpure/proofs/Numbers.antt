@@ -18,11 +18,12 @@ use Rattle.hs_heap.specs.Variables.{in_atom, occurs_in_disjunct}
 use Rattle.hs_heap.specs.Sound.{AtomFits, IsSound}
 use Rattle.hs_heap.proofs.Stacks.{same_itself}
 use Rattle.hs_heap.specs.Instance.{Body, BodyFits, ArgumentsFit, body_of, body_of_pred, body_of_inv, body_or_none, instantiated, next_after}
-use Rattle.hs_xpure.specs.Approximation.{Formed, Former, unformed, combined, conjunction, disjunction, address, all_apart, atoms_formed, case_formed, cases_formed, body_cases, body_formed, node_formed, inv_formed, inv_of, inv_and_body_of, of_formed, form}
+use Rattle.hs_xpure.specs.declared.formed.Formed.{Formed}
+use Rattle.hs_xpure.specs.Approximation.{Former, unformed, combined, conjunction, disjunction, address, all_apart, atoms_formed, case_formed, cases_formed, body_cases, body_formed, node_formed, inv_formed, inv_of, inv_and_body_of, of_formed, form}
 use Rattle.hs_xpure.specs.Laws.{IsBetween}
 use Rattle.hs_xpure.specs.Invariants.{pred_atom}
 use Rattle.hs_xpure.proofs.Used.{Uses, AllUse, AddressesIn, all_use_weaker, all_use-append, uses_conjunction, uses_disjunction, uses_all_apart, uses_equal, uses_positive}
-use Rattle.hs_xpure.proofs.Bodies.{CasesFit, no_pred, arguments_fit, pred_body_fits, pred_inv_fits, inv_uses, body_uses, body_atoms_fit}
+use Rattle.hs_xpure.proofs.Bodies.{CasesAtomsFit, no_pred, arguments_fit, pred_body_fits, pred_inv_fits, inv_uses, body_uses, body_atoms_fit}
 
 -- of what was there, or new
 abbrev pub IsOldOrNew : (Var → Type 0) → ℕ → ℕ → Var → Type 0
@@ -153,7 +154,7 @@ module _ (defs : Defs) (former : Former) (fits : FormerFits defs former) where
         addresses = all.addresses;
       }
 
-  pub cases_fit : (ds : List Disjunct) (n : ℕ) → CasesFit defs ds → AreBelow n (InCases ds) → FormedFits (InCases ds) n (cases_formed former ds n)
+  pub cases_fit : (ds : List Disjunct) (n : ℕ) → CasesAtomsFit defs ds → AreBelow n (InCases ds) → FormedFits (InCases ds) n (cases_formed former ds n)
   cases_fit [] n f low = unformed_fits (InCases []) n
   cases_fit (d ∷ ds) n (f, fs) low =
       let one = case_formed former d n in
