@@ -1,0 +1,11 @@
+mod Used
+mod Bodies
+mod Numbers
+mod Places
+mod Shown
+mod Levels
+mod Counting
+mod Building
+mod Steps
+mod Capped
+mod Own

@@ -1,0 +1,4 @@
+pub mod Approximation
+pub mod Counts
+pub mod Invariants
+pub mod Laws

@@ -1,0 +1,20 @@
+//! Laws of approximations, for the proofs of the layers above. Each is the contract of a function without a body.
+
+ghost use Rattle.hs_xpure.specs.Laws.{ApproximationIsTrue, InvariantsAreShown, NewNumbersAreInRange};
+
+/// Where invariants hold and a heap satisfies atoms, their approximation is true at every level, for some values
+/// of its new numbers.
+pub fn approximation_is_true()
+    ensures { ApproximationIsTrue }
+{}
+
+/// Where each predicate's invariant follows from its body at level 0, invariants hold.
+pub fn invariants_are_shown()
+    ensures { InvariantsAreShown }
+{}
+
+/// What occurs in the approximation of atoms is of the atoms, or numbered from the first new number on and below
+/// the next one.
+pub fn new_numbers_are_in_range()
+    ensures { NewNumbersAreInRange }
+{}
