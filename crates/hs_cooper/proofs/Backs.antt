@@ -6,13 +6,13 @@ use Rattle.hs_pure.specs.declared.pure.Pure.TheVariants as pure_of
 use Rattle.hs_pure.specs.Assertion.{Assertion, both, either, every, some, pure_level, assertion_of}
 use Rattle.hs_pure.proofs.Views.{fold-And, fold-Or}
 use Rattle.hs_elimination.specs.Form.{Form, conjunction, disjunction, all_of, some_of, assertion, IsWide}
-use Rattle.hs_cooper.specs.declared.nnf.Connective.{Connective}
-use Rattle.hs_cooper.specs.declared.nnf.Connective.TheVariants.{And, Or}
-use Rattle.hs_cooper.specs.declared.nnf.Nnf.{Nnf}
-use Rattle.hs_cooper.specs.declared.nnf.Nnf.TheVariants as nnf_of
-use Rattle.hs_cooper.specs.Reading.{listed, form_of}
-use Rattle.hs_cooper.proofs.Forms.{form-Joined}
-use Rattle.hs_cooper.proofs.Changes.{map-map, listed_member, contains-map}
+use Rattle.hs_cooper_forms.specs.declared.nnf.Connective.{Connective}
+use Rattle.hs_cooper_forms.specs.declared.nnf.Connective.TheVariants.{And, Or}
+use Rattle.hs_cooper_forms.specs.declared.nnf.Nnf.{Nnf}
+use Rattle.hs_cooper_forms.specs.declared.nnf.Nnf.TheVariants as nnf_of
+use Rattle.hs_cooper_forms.specs.Reading.{listed, form_of}
+use Rattle.hs_cooper_forms.proofs.Forms.{form-Joined}
+use Rattle.hs_cooper_forms.proofs.Changes.{map-map, listed_member, contains-map}
 
 assertion-fold : (op : Form → Form → Form) (po : Assertion → Assertion → Assertion) → ((f g : Form) → assertion (op f g) ≡ po (assertion f) (assertion g)) → (f : Form) (fs : List Form) → assertion (fold op f fs) ≡ fold po (assertion f) (map assertion fs)
 assertion-fold op po is f [] = refl

@@ -5,13 +5,13 @@ use Rattle.std.proofs.lemmas.List.{drop_more}
 use Rattle.hs_pure.specs.declared.lin.Lin.{Lin}
 use Rattle.hs_elimination.specs.Form.{Form, conjunction, disjunction}
 use Rattle.hs_elimination.specs.Cases.{has_lin, join_distinct}
-use Rattle.hs_cooper.specs.declared.nnf.Connective.{Connective}
-use Rattle.hs_cooper.specs.declared.nnf.Connective.TheVariants.{And, Or}
-use Rattle.hs_cooper.specs.declared.nnf.Nnf.{Nnf}
-use Rattle.hs_cooper.specs.declared.nnf.Nnf.TheVariants as nnf_of
-use Rattle.hs_cooper.specs.Reading.{listed, form_of}
+use Rattle.hs_cooper_forms.specs.declared.nnf.Connective.{Connective}
+use Rattle.hs_cooper_forms.specs.declared.nnf.Connective.TheVariants.{And, Or}
+use Rattle.hs_cooper_forms.specs.declared.nnf.Nnf.{Nnf}
+use Rattle.hs_cooper_forms.specs.declared.nnf.Nnf.TheVariants as nnf_of
+use Rattle.hs_cooper_forms.specs.Reading.{listed, form_of}
 use Rattle.hs_cooper.specs.Bounding.{denied_bounds, join_all}
-use Rattle.hs_cooper.proofs.Forms.{form-Joined}
+use Rattle.hs_cooper_forms.proofs.Forms.{form-Joined}
 
 pub join_distinct-append : (done a b : List Lin) → join_distinct done (a ++ b) ≡ join_distinct (join_distinct done a) b
 join_distinct-append done [] b = refl

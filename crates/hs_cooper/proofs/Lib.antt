@@ -1,12 +1,7 @@
-pub mod Merging
-pub mod Forms
-pub mod Changes
-pub mod Normals
 pub mod Surveys
 pub mod Joining
 pub mod Backs
 pub mod Thirds
 pub mod Whole
-pub mod Members
-pub mod Narrow
+pub mod NarrowStages
 pub mod Searches

@@ -25,17 +25,17 @@ use Rattle.hs_elimination.specs.Witness.{low_value, near_case, low_case, least_l
 use Rattle.hs_elimination.proofs.Order.{rising-ordered, order_is, simple-assertion}
 use Rattle.hs_elimination.proofs.Decided.{tested}
 use Rattle.hs_elimination.proofs.PlainValue.{plain_true, plain_none}
-use Rattle.hs_cooper.specs.declared.change.Change.TheVariants.{Substitute, Low}
-use Rattle.hs_cooper.specs.Changing.{changed, HasUneven}
+use Rattle.hs_cooper_forms.specs.declared.change.Change.TheVariants.{Substitute, Low}
+use Rattle.hs_cooper_forms.specs.Changing.{changed, HasUneven}
 use Rattle.hs_cooper.proofs.Thirds.{wide-cases}
 use Rattle.hs_cooper.proofs.Whole.{wide-evaluate, even-second}
-use Rattle.hs_cooper.specs.declared.nnf.Connective.{Connective}
-use Rattle.hs_cooper.specs.declared.nnf.Nnf.{Nnf}
-use Rattle.hs_cooper.specs.declared.nnf.Nnf.TheVariants as nnf_of
-use Rattle.hs_cooper.specs.Reading.{listed, form_of}
+use Rattle.hs_cooper_forms.specs.declared.nnf.Connective.{Connective}
+use Rattle.hs_cooper_forms.specs.declared.nnf.Nnf.{Nnf}
+use Rattle.hs_cooper_forms.specs.declared.nnf.Nnf.TheVariants as nnf_of
+use Rattle.hs_cooper_forms.specs.Reading.{listed, form_of}
 use Rattle.hs_cooper.specs.Searching.{limit_of_all, IsRefusedNearAt, IsRefusedLowAt, IsRefusedLow, IsRefusedSearch}
-use Rattle.hs_cooper.proofs.Forms.{form-Joined}
-use Rattle.hs_cooper.proofs.Changes.{listed_member, contains-map}
+use Rattle.hs_cooper_forms.proofs.Forms.{form-Joined}
+use Rattle.hs_cooper_forms.proofs.Changes.{listed_member, contains-map}
 use Rattle.hs_cooper.proofs.Surveys.{passed-listed}
 
 -- ---- lists of formulas

@@ -6,16 +6,16 @@ use Rattle.hs_elimination.specs.Scaling.{multiplier}
 use Rattle.hs_elimination.specs.Cases.{period}
 use Rattle.hs_elimination.proofs.Meaning.{HasPositiveDivisors}
 use Rattle.hs_elimination.proofs.Elimination.{multiplier-above, multiplier-positive, period-above}
-use Rattle.hs_cooper.specs.declared.nnf.Connective.{Connective}
-use Rattle.hs_cooper.specs.declared.nnf.Connective.TheVariants.{And, Or}
-use Rattle.hs_cooper.specs.declared.nnf.Nnf.{Nnf}
-use Rattle.hs_cooper.specs.declared.nnf.Nnf.TheVariants as nnf_of
-use Rattle.hs_cooper.specs.Reading.{listed, form_of}
+use Rattle.hs_cooper_forms.specs.declared.nnf.Connective.{Connective}
+use Rattle.hs_cooper_forms.specs.declared.nnf.Connective.TheVariants.{And, Or}
+use Rattle.hs_cooper_forms.specs.declared.nnf.Nnf.{Nnf}
+use Rattle.hs_cooper_forms.specs.declared.nnf.Nnf.TheVariants as nnf_of
+use Rattle.hs_cooper_forms.specs.Reading.{listed, form_of}
 use Rattle.std.proofs.lemmas.List.{drop_more}
 use Rattle.hs_cooper.specs.Surveying.{low_atoms, multiplier_of_all, period_of_all, HasPositive, AllPositive}
-use Rattle.hs_cooper.proofs.Forms.{form-Joined}
-use Rattle.hs_cooper.proofs.Changes.{map-map}
-use Rattle.hs_cooper.proofs.Normals.{measure-listed}
+use Rattle.hs_cooper_forms.proofs.Forms.{form-Joined}
+use Rattle.hs_cooper_forms.proofs.Changes.{map-map}
+use Rattle.hs_cooper_forms.proofs.Normals.{measure-listed}
 
 measure-Joined : (h : Form → ℕ) → ((b : Bool) → h (const b) ≡ 0) → ((f g : Form) → h (conjunction f g) ≡ h f + h g) → ((f g : Form) → h (disjunction f g) ≡ h f + h g)
     → (f : Nnf) (c : Connective) (fs : List Nnf) → f ≡ nnf_of.Joined c fs → sum (map (λ g. h (form_of g)) fs) ≡ h (form_of f)

@@ -16,20 +16,20 @@ use Rattle.hs_elimination.specs.Elimination.{HasWideSum}
 use Rattle.hs_elimination.proofs.Stage3.{contains_head, contains_tail, contains_cases, contains_none}
 use Rattle.std.proofs.lemmas.Bool.{cases_lt}
 use Rattle.hs_elimination.proofs.Plain.{atoms-cooper}
-use Rattle.hs_cooper.specs.declared.nnf.Connective.TheVariants.{Or}
-use Rattle.hs_cooper.specs.Reading.{join, joined}
-use Rattle.hs_cooper.specs.Changing.{HasUneven}
+use Rattle.hs_cooper_forms.specs.declared.nnf.Connective.TheVariants.{Or}
+use Rattle.hs_cooper_forms.specs.Reading.{join, joined}
+use Rattle.hs_cooper_forms.specs.Changing.{HasUneven}
 use Rattle.hs_cooper.specs.Surveying.{low_atoms}
 use Rattle.hs_cooper.specs.Bounding.{denied_bound, denied_bounds}
 use Rattle.std.proofs.Common.{Result, Ok, Err, IsErrOf}
 use Rattle.std.specs.Result.{IsErrAnd}
 use Rattle.hs_cooper.specs.declared.stop.Stop.{Stop}
 use Rattle.hs_cooper.specs.declared.stop.Stop.TheVariants as stop
-use Rattle.hs_cooper.specs.declared.stop.Refusal.{Refusal}
-use Rattle.hs_cooper.specs.declared.stop.Refusal.TheVariants as refusal
+use Rattle.hs_cooper_forms.specs.declared.refusal.Refusal.{Refusal}
+use Rattle.hs_cooper_forms.specs.declared.refusal.Refusal.TheVariants as refusal
 use Rattle.hs_cooper.specs.Stopping.{stop_of}
 use Rattle.hs_cooper.specs.Casing.{IsRefusedTo}
-use Rattle.hs_cooper.proofs.Changes.{listed-joined, listed_member, contains-map}
+use Rattle.hs_cooper_forms.proofs.Changes.{listed-joined, listed_member, contains-map}
 
 -- ---- one number after another
 

@@ -21,7 +21,7 @@ use Rattle.hs_elimination.proofs.Elimination.{AreUnits, units-stage2, positive-s
 use Rattle.hs_elimination.proofs.Plain.{units-evaluate, rising-evaluate, rising-normal, positive-evaluate, positive-normal}
 use Rattle.hs_elimination.proofs.Order.{rising-ordered, order_is, ordered-without_variable, lacks-without_variable}
 use Rattle.hs_elimination.proofs.Decided.{truth-without_variable}
-use Rattle.hs_cooper.specs.Changing.{HasUneven}
+use Rattle.hs_cooper_forms.specs.Changing.{HasUneven}
 use Rattle.hs_cooper.specs.Surveying.{HasPositive}
 
 -- ---- sizes

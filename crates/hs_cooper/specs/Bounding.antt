@@ -4,8 +4,8 @@ use Rattle.hs_pure.specs.declared.lin.Lin.{Lin}
 use Rattle.hs_elimination.specs.Linear.{coefficient, rest}
 use Rattle.hs_elimination.specs.Form.{Form, const, positive, multiple, no_multiple, conjunction, disjunction}
 use Rattle.hs_elimination.specs.Cases.{join_distinct}
-use Rattle.hs_cooper.specs.declared.nnf.Nnf.{Nnf}
-use Rattle.hs_cooper.specs.Reading.{form_of}
+use Rattle.hs_cooper_forms.specs.declared.nnf.Nnf.{Nnf}
+use Rattle.hs_cooper_forms.specs.Reading.{form_of}
 
 -- the r of 0 < x + r
 abbrev pub denied_bound : ℤ → Lin → List Lin

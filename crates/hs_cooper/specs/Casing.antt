@@ -5,8 +5,8 @@ use Rattle.hs_pure.specs.declared.var.Var.{Var}
 use Rattle.hs_pure.specs.declared.lin.Lin.{Lin}
 use Rattle.hs_elimination.specs.Linear.{plus, number, IsWideLin}
 use Rattle.hs_elimination.specs.Form.{Form, IsWide}
-use Rattle.hs_cooper.specs.declared.change.Change.TheVariants.{Substitute, Low}
-use Rattle.hs_cooper.specs.Changing.{changed, IsRefused}
+use Rattle.hs_cooper_forms.specs.declared.change.Change.TheVariants.{Substitute, Low}
+use Rattle.hs_cooper_forms.specs.Changing.{changed, IsRefused}
 
 -- the minus-infinity form is refused at j, or the formula is at b + j for some b, or b + j is
 abbrev pub IsRefusedAt : Var → Form → List Lin → ℕ → Type 0

@@ -1,9 +1,4 @@
 pub mod Stopping
-pub mod Sign
-pub mod Reading
-pub mod Gathering
-pub mod Changing
-pub mod Normalizing
 pub mod Surveying
 pub mod Bounding
 pub mod Casing

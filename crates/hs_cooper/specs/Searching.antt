@@ -8,10 +8,10 @@ use Rattle.hs_pure.specs.Eval.{NumbersFit}
 use Rattle.hs_elimination.specs.Linear.{place, plus, number, IsWideLin}
 use Rattle.hs_elimination.specs.Form.{Form, assertion}
 use Rattle.hs_elimination.specs.Witness.{low_case, first_near, first_low, least_limit, HasWideNear, IsWideLow}
-use Rattle.hs_cooper.specs.declared.change.Change.TheVariants.{Substitute, Low}
-use Rattle.hs_cooper.specs.declared.nnf.Nnf.{Nnf}
-use Rattle.hs_cooper.specs.Reading.{form_of}
-use Rattle.hs_cooper.specs.Changing.{IsRefused}
+use Rattle.hs_cooper_forms.specs.declared.change.Change.TheVariants.{Substitute, Low}
+use Rattle.hs_cooper_forms.specs.declared.nnf.Nnf.{Nnf}
+use Rattle.hs_cooper_forms.specs.Reading.{form_of}
+use Rattle.hs_cooper_forms.specs.Changing.{IsRefused}
 
 -- ---- refusals
 

@@ -1,6 +1,6 @@
 -- The stop that a refusal is.
-use Rattle.hs_cooper.specs.declared.stop.Refusal.{Refusal}
-use Rattle.hs_cooper.specs.declared.stop.Refusal.TheVariants as refusal
+use Rattle.hs_cooper_forms.specs.declared.refusal.Refusal.{Refusal}
+use Rattle.hs_cooper_forms.specs.declared.refusal.Refusal.TheVariants as refusal
 use Rattle.hs_cooper.specs.declared.stop.Stop.{Stop}
 use Rattle.hs_cooper.specs.declared.stop.Stop.TheVariants.{Wide, Memory}
 

@@ -3,8 +3,8 @@ use Rattle.std.specs.Prelude.{◌≡◌, ℕ, ◌<◌, ◌≤◌, List, [], ◌�
 use Rattle.hs_elimination.specs.Form.{Form, const, positive, multiple, no_multiple, conjunction, disjunction, atoms}
 use Rattle.hs_elimination.specs.Scaling.{multiplier}
 use Rattle.hs_elimination.specs.Cases.{minus_infinity, period}
-use Rattle.hs_cooper.specs.declared.nnf.Nnf.{Nnf}
-use Rattle.hs_cooper.specs.Reading.{form_of}
+use Rattle.hs_cooper_forms.specs.declared.nnf.Nnf.{Nnf}
+use Rattle.hs_cooper_forms.specs.Reading.{form_of}
 
 -- the atoms of the minus-infinity form
 abbrev pub low_atoms : ℕ → Form → ℕ

@@ -5,13 +5,11 @@ ghost use mir.Syntax.{w128};
 ghost use Rattle.std.specs.List.{Contains};
 ghost use Rattle.hs_pure.specs.Assertion.{assertion_of, divides};
 ghost use Rattle.hs_elimination.specs.Form.{assertion, IsWide};
-ghost use Rattle.hs_cooper.specs.Reading.{form_of, literal_form};
-ghost use Rattle.hs_cooper.specs.declared.stop.Refusal.TheVariants.{Wide};
-ghost use Rattle.hs_cooper.specs.declared.nnf.Nnf.{Nnf};
+ghost use Rattle.hs_cooper_forms.specs.Reading.{form_of, literal_form};
+ghost use Rattle.hs_cooper_forms.specs.declared.refusal.Refusal.TheVariants.{Wide};
+ghost use Rattle.hs_cooper_forms.specs.declared.nnf.Nnf.{Nnf};
 
-use crate::linear::constant;
-use crate::nnf::{Connective, Literal, Nnf, Relation};
-use crate::stop::Refusal;
+use hs_cooper_forms::{Connective, Literal, Nnf, Refusal, Relation, constant};
 use hs_pure::{Lin, Pure};
 use sqlite_items::{Boxed, Items};
 use std::alloc::Global;

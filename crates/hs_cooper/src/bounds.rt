@@ -3,13 +3,12 @@
 ghost use Rattle.std.specs.Prelude.{◌≡◌, ◌<◌, ◌≤◌, [], ◌∷◌, length, OnOk, IsErrOf};
 ghost use Rattle.hs_elimination.specs.Linear.{place};
 ghost use Rattle.hs_elimination.specs.Cases.{has_lin, join_distinct};
-ghost use Rattle.hs_cooper.specs.Reading.{form_of, literal_form};
+ghost use Rattle.hs_cooper_forms.specs.Reading.{form_of, literal_form};
 ghost use Rattle.hs_cooper.specs.Bounding.{denied_bounds, join_all};
 ghost use Rattle.hs_cooper.specs.declared.stop.Stop.TheVariants.{Atoms, Wide};
 
 use crate::Stop;
-use crate::linear::{coefficient, rest, same_lin};
-use crate::nnf::{Literal, Nnf, Relation};
+use hs_cooper_forms::{Literal, Nnf, Relation, coefficient, rest, same_lin};
 use hs_pure::{Lin, Var};
 use sqlite_items::Items;
 use std::alloc::Global;

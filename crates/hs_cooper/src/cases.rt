@@ -5,17 +5,13 @@ ghost use Rattle.std.specs.List.{fold};
 ghost use Rattle.hs_elimination.specs.Linear.{place};
 ghost use Rattle.hs_elimination.specs.Normal.{evaluate};
 ghost use Rattle.hs_elimination.specs.Cases.{cases_at, cases_to};
-ghost use Rattle.hs_cooper.specs.Reading.{form_of, join, joined, IsCanonical};
-ghost use Rattle.hs_cooper.specs.Gathering.{gathered, HasProper};
+ghost use Rattle.hs_cooper_forms.specs.Reading.{form_of, join, joined, IsCanonical};
+ghost use Rattle.hs_cooper_forms.specs.Gathering.{gathered, HasProper};
 ghost use Rattle.hs_cooper.specs.Casing.{IsRefusedAt, IsRefusedTo, HasWideAt, HasWideGiven};
-ghost use Rattle.hs_cooper.specs.declared.stop.Refusal.TheVariants.{Wide};
-ghost use Rattle.hs_cooper.specs.declared.nnf.Connective.TheVariants.{Or};
+ghost use Rattle.hs_cooper_forms.specs.declared.refusal.Refusal.TheVariants.{Wide};
+ghost use Rattle.hs_cooper_forms.specs.declared.nnf.Connective.TheVariants.{Or};
 
-use crate::change::{Change, apply};
-use crate::gather::Gathered;
-use crate::linear::shifted;
-use crate::nnf::{Connective, Nnf};
-use crate::stop::Refusal;
+use hs_cooper_forms::{Change, Connective, Gathered, Nnf, Refusal, apply, shifted};
 use hs_pure::{Lin, Var};
 use std::alloc::Global;
 

@@ -11,21 +11,18 @@ ghost use Rattle.hs_elimination.specs.Linear.{place};
 ghost use Rattle.hs_elimination.specs.Normal.{is_simple, evaluate};
 ghost use Rattle.hs_elimination.specs.Scaling.{multiplier, stage2};
 ghost use Rattle.hs_elimination.specs.Elimination.{normal_form, scaled_form, without_variable, IsWithin, StaysWithin, PassesAtoms, PassesBits};
-ghost use Rattle.hs_cooper.specs.Reading.{form_of, IsCanonical};
-ghost use Rattle.hs_cooper.specs.declared.stop.Refusal.TheVariants as refusal;
+ghost use Rattle.hs_cooper_forms.specs.Reading.{form_of, IsCanonical};
+ghost use Rattle.hs_cooper_forms.specs.declared.refusal.Refusal.TheVariants as refusal;
 ghost use Rattle.hs_cooper.specs.declared.stop.Stop.TheVariants.{Atoms, Wide};
 
 use crate::Stop;
 use crate::back::to_pure;
-use crate::change::{Change, apply};
-use crate::gather::Gathered;
-use crate::linear::single;
-use crate::nnf::{Connective, Literal, Nnf, Relation, evaluated};
-use crate::normal::{count_normal, normalize};
-use crate::sign::Sign;
-use crate::stop::Refusal;
 use crate::survey::{count_atoms, multiplier};
 use crate::third::third_stage;
+use hs_cooper_forms::{
+    Change, Connective, Gathered, Literal, Nnf, Refusal, Relation, Sign, apply, count_normal,
+    evaluated, normalize, single,
+};
 use hs_pure::{Pure, Var};
 use std::alloc::Global;
 

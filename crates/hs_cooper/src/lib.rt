@@ -9,17 +9,11 @@
 mod back;
 mod bounds;
 mod cases;
-mod change;
 mod elimination;
-mod gather;
 mod lcm;
 mod limit;
-mod linear;
-mod nnf;
-mod normal;
 mod period;
 mod search;
-mod sign;
 mod stop;
 mod survey;
 mod third;

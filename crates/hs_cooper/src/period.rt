@@ -4,12 +4,11 @@ ghost use Rattle.std.specs.Prelude.{◌≡◌, ◌≤◌, ◌<◌, ◌^◌, None
 ghost use Rattle.hs_elimination.specs.Linear.{place};
 ghost use Rattle.hs_elimination.specs.Lcm.{lcm};
 ghost use Rattle.hs_elimination.specs.Cases.{period, period_with};
-ghost use Rattle.hs_cooper.specs.Reading.{form_of, literal_form};
+ghost use Rattle.hs_cooper_forms.specs.Reading.{form_of, literal_form};
 ghost use Rattle.hs_cooper.specs.Surveying.{period_of_all, IsPeriod, HasPositive, AllPositive};
 
 use crate::lcm::lcm;
-use crate::linear::coefficient;
-use crate::nnf::{Literal, Nnf, Relation};
+use hs_cooper_forms::{Literal, Nnf, Relation, coefficient};
 use hs_pure::Var;
 
 // The least common multiple of two numbers, if it is at most `budget`.

@@ -12,21 +12,18 @@ ghost use Rattle.hs_elimination.specs.Linear.{place};
 ghost use Rattle.hs_elimination.specs.Normal.{is_simple};
 ghost use Rattle.hs_elimination.specs.Decided.{evaluates_to};
 ghost use Rattle.hs_elimination.specs.Witness.{near_at, first_near_bound, first_near, low_at, first_low, first_value, plain_value, IsWideLow, PassesValues};
-ghost use Rattle.hs_cooper.specs.Reading.{form_of};
+ghost use Rattle.hs_cooper_forms.specs.Reading.{form_of};
 ghost use Rattle.hs_cooper.specs.Searching.{IsRefusedNearAt, IsRefusedNearBound, IsRefusedNear, IsRefusedLowAt, IsRefusedLow, IsRefusedSearch};
-ghost use Rattle.hs_cooper.specs.declared.stop.Refusal.TheVariants as refusal;
+ghost use Rattle.hs_cooper_forms.specs.declared.refusal.Refusal.TheVariants as refusal;
 ghost use Rattle.hs_cooper.specs.declared.stop.Stop.TheVariants.{Atoms, Wide};
 
 use crate::Stop;
 use crate::back::to_pure;
-use crate::change::{Change, apply};
 use crate::elimination::scaled;
 use crate::limit::{low_value, lower_by};
-use crate::linear::shifted;
-use crate::nnf::Nnf;
-use crate::stop::Refusal;
 use crate::third::count_cases;
 use crate::value::value;
+use hs_cooper_forms::{Change, Nnf, Refusal, apply, shifted};
 use hs_pure::{Lin, Pure, Valuation, Var};
 use std::alloc::Global;
 

@@ -1,10 +1,9 @@
 ghost use Rattle.std.specs.Prelude.{◌≡◌};
 ghost use Rattle.hs_cooper.specs.Stopping.{stop_of};
-ghost use Rattle.hs_cooper.specs.declared.stop.Refusal.TheVariants.{Memory};
 ghost use Rattle.hs_cooper.specs.declared.stop.Stop.TheVariants as stop;
 
-use hs_pure::NoMemory;
-use std::alloc::{AllocError, AllocFailed};
+use hs_cooper_forms::Refusal;
+use std::alloc::AllocError;
 
 /// Why an elimination stopped.
 #[derive(Clone, Copy, Debug, PartialEq, Eq)]
@@ -12,15 +11,6 @@ pub enum Stop {
     /// A stage has more atoms than the budget.
     Atoms,
     /// A number of a stage passes 128 bits.
-    Wide,
-    /// There was no memory.
-    Memory,
-}
-
-/// Why a formula was not built.
-#[derive(Clone, Copy, Debug, PartialEq, Eq)]
-pub(crate) enum Refusal {
-    /// A number of it passes 128 bits.
     Wide,
     /// There was no memory.
     Memory,
@@ -42,29 +32,5 @@ impl From<AllocError> for Stop {
 
     fn from(_: AllocError) -> Stop {
         Stop::Memory
-    }
-}
-
-impl From<AllocError> for Refusal {
-    ghost from_gives = { λ _ e. e ≡ Memory };
-
-    fn from(_: AllocError) -> Refusal {
-        Refusal::Memory
-    }
-}
-
-impl<T: Drop> From<AllocFailed<T>> for Refusal {
-    ghost from_gives = { λ _ e. e ≡ Memory };
-
-    fn from(_: AllocFailed<T>) -> Refusal {
-        Refusal::Memory
-    }
-}
-
-impl From<NoMemory> for Refusal {
-    ghost from_gives = { λ _ e. e ≡ Memory };
-
-    fn from(_: NoMemory) -> Refusal {
-        Refusal::Memory
     }
 }

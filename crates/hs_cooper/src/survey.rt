@@ -6,13 +6,11 @@ ghost use Rattle.hs_elimination.specs.Linear.{place};
 ghost use Rattle.hs_elimination.specs.Form.{atoms};
 ghost use Rattle.hs_elimination.specs.Scaling.{multiplier, multiplier_with};
 ghost use Rattle.hs_elimination.specs.Cases.{minus_infinity};
-ghost use Rattle.hs_cooper.specs.Reading.{form_of};
+ghost use Rattle.hs_cooper_forms.specs.Reading.{form_of};
 ghost use Rattle.hs_cooper.specs.Surveying.{multiplier_of_all, low_atoms};
 
-use crate::change::at_low;
 use crate::lcm::lcm;
-use crate::linear::coefficient;
-use crate::nnf::Nnf;
+use hs_cooper_forms::{Nnf, at_low, coefficient};
 use hs_pure::Var;
 use std::cmp::min;
 

@@ -3,14 +3,14 @@ use Rattle.hs_elimination.specs.Linear.{place, plus, number, IsWideLin}
 use Rattle.hs_elimination.specs.Form.{IsWide}
 use Rattle.hs_elimination.specs.Normal.{evaluate}
 use Rattle.hs_elimination.specs.Cases.{substitute, minus_infinity}
-use Rattle.hs_cooper.specs.Reading.{form_of, join}
-use Rattle.hs_cooper.specs.Gathering.{gathered}
-use Rattle.hs_cooper.specs.Changing.{changed}
-use Rattle.hs_cooper.specs.declared.change.Change.TheVariants.{Substitute}
-use Rattle.hs_cooper.specs.declared.nnf.Connective.TheVariants.{Or}
-use Rattle.hs_cooper.proofs.Members.{each_more, each_whole}
-use Rattle.hs_cooper.proofs.Changes.{fold_next}
-use Rattle.hs_cooper.proofs.Narrow.{narrow_case, narrow_at}
+use Rattle.hs_cooper_forms.specs.Reading.{form_of, join}
+use Rattle.hs_cooper_forms.specs.Gathering.{gathered}
+use Rattle.hs_cooper_forms.specs.Changing.{changed}
+use Rattle.hs_cooper_forms.specs.declared.change.Change.TheVariants.{Substitute}
+use Rattle.hs_cooper_forms.specs.declared.nnf.Connective.TheVariants.{Or}
+use Rattle.hs_cooper_forms.proofs.Members.{each_more, each_whole}
+use Rattle.hs_cooper_forms.proofs.Changes.{fold_next}
+use Rattle.hs_cooper.proofs.NarrowStages.{narrow_case, narrow_at}
 use Rattle.hs_cooper.proofs.cases.add_cases.Goals as goal
 
 pub loop-b-preserved : goal.loop-b-preserved

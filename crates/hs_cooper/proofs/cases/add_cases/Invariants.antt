@@ -5,11 +5,11 @@ use Rattle.hs_elimination.specs.Linear.{place, plus, number, IsWideLin}
 use Rattle.hs_elimination.specs.Form.{IsWide}
 use Rattle.hs_elimination.specs.Normal.{evaluate}
 use Rattle.hs_elimination.specs.Cases.{substitute, minus_infinity}
-use Rattle.hs_cooper.specs.Reading.{form_of, join}
-use Rattle.hs_cooper.specs.Changing.{changed}
-use Rattle.hs_cooper.specs.declared.change.Change.TheVariants.{Substitute}
-use Rattle.hs_cooper.specs.Gathering.{gathered, HasProper}
-use Rattle.hs_cooper.specs.declared.nnf.Connective.TheVariants.{Or}
+use Rattle.hs_cooper_forms.specs.Reading.{form_of, join}
+use Rattle.hs_cooper_forms.specs.Changing.{changed}
+use Rattle.hs_cooper_forms.specs.declared.change.Change.TheVariants.{Substitute}
+use Rattle.hs_cooper_forms.specs.Gathering.{gathered, HasProper}
+use Rattle.hs_cooper_forms.specs.declared.nnf.Connective.TheVariants.{Or}
 use Rattle.hs_cooper.proofs.cases.add_cases.Given as goal
 
 abbrev pub invariant-loop-b : goal.invariant-loop-b

@@ -1,8 +1,8 @@
 use Rattle.std.proofs.Common.{arith, rules}
 use Rattle.hs_elimination.specs.Linear.{place}
-use Rattle.hs_cooper.specs.Reading.{form_of}
+use Rattle.hs_cooper_forms.specs.Reading.{form_of}
 use Rattle.hs_cooper.specs.Casing.{HasWideAt, HasWideGiven}
-use Rattle.hs_cooper.proofs.Members.{each_next}
+use Rattle.hs_cooper_forms.proofs.Members.{each_next}
 use Rattle.hs_cooper.proofs.Thirds.{next_cases}
 use Rattle.hs_cooper.proofs.cases.all_cases.Goals as goal
 

@@ -2,10 +2,10 @@ use Rattle.std.proofs.Common.{◌≡◌, ℕ, ◌-◌, ◌≤◌, ◌<◌, map}
 use Rattle.hs_elimination.specs.Linear.{place}
 use Rattle.hs_elimination.specs.Normal.{evaluate}
 use Rattle.hs_elimination.specs.Cases.{cases_to}
-use Rattle.hs_cooper.specs.Reading.{form_of, joined}
+use Rattle.hs_cooper_forms.specs.Reading.{form_of, joined}
 use Rattle.hs_cooper.specs.Casing.{HasWideAt, HasWideGiven}
-use Rattle.hs_cooper.specs.Gathering.{gathered, HasProper}
-use Rattle.hs_cooper.specs.declared.nnf.Connective.TheVariants.{Or}
+use Rattle.hs_cooper_forms.specs.Gathering.{gathered, HasProper}
+use Rattle.hs_cooper_forms.specs.declared.nnf.Connective.TheVariants.{Or}
 use Rattle.hs_cooper.proofs.cases.all_cases.Given as goal
 
 abbrev pub invariant-loop-j : goal.invariant-loop-j

@@ -4,12 +4,12 @@ use Rattle.hs_elimination.specs.Linear.{place}
 use Rattle.hs_elimination.specs.Form.{atoms, IsWide}
 use Rattle.hs_elimination.specs.Cases.{stage3}
 use Rattle.hs_elimination.specs.Elimination.{HasWideSum}
-use Rattle.hs_cooper.specs.Reading.{form_of}
-use Rattle.hs_cooper.specs.Changing.{HasUneven}
+use Rattle.hs_cooper_forms.specs.Reading.{form_of}
+use Rattle.hs_cooper_forms.specs.Changing.{HasUneven}
 use Rattle.hs_cooper.specs.Surveying.{HasPositive}
 use Rattle.hs_cooper.proofs.Thirds.{wide_given}
 use Rattle.hs_cooper.proofs.Whole.{small_scaled, result_is, wide-evaluate, even-second, positive-second, truth-result, lacks-result, ordered-result}
-use Rattle.hs_cooper.proofs.Narrow.{narrow_third}
+use Rattle.hs_cooper.proofs.NarrowStages.{narrow_third}
 use Rattle.hs_cooper.proofs.elimination.eliminate.Goals as goal
 
 pub third_stage-requires-clause-within : goal.third_stage-requires-clause-within

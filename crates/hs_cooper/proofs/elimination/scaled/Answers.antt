@@ -3,10 +3,10 @@ use Rattle.hs_pure.specs.Assertion.{assertion_of}
 use Rattle.hs_elimination.specs.Linear.{place}
 use Rattle.hs_elimination.specs.Form.{IsWide}
 use Rattle.hs_elimination.specs.Scaling.{multiplier, stage2}
-use Rattle.hs_cooper.specs.Reading.{form_of}
+use Rattle.hs_cooper_forms.specs.Reading.{form_of}
 use Rattle.hs_cooper.proofs.Thirds.{wide_given}
 use Rattle.hs_cooper.proofs.Whole.{first_within, scaled_within, scaled_over, scaled_is}
-use Rattle.hs_cooper.proofs.Narrow.{narrow_second}
+use Rattle.hs_cooper.proofs.NarrowStages.{narrow_second}
 use Rattle.hs_cooper.proofs.elimination.scaled.Goals as goal
 
 pub returns-then-count_atoms-budget-clause-atoms : goal.returns-then-count_atoms-budget-clause-atoms

@@ -1,6 +1,6 @@
 use Rattle.std.proofs.Common.{arith}
-use Rattle.hs_cooper.specs.Reading.{form_of}
-use Rattle.hs_cooper.proofs.Narrow.{narrow-stage2}
+use Rattle.hs_cooper_forms.specs.Reading.{form_of}
+use Rattle.hs_cooper.proofs.NarrowStages.{narrow-stage2}
 use Rattle.hs_cooper.proofs.elimination.second_stage.Goals as goal
 
 pub returns-clause-narrow : goal.returns-clause-narrow

@@ -3,7 +3,7 @@ use Rattle.hs_pure.specs.Eval.{stack_of}
 use Rattle.hs_elimination.specs.Normal.{is_simple}
 use Rattle.hs_elimination.proofs.Order.{simple-assertion}
 use Rattle.hs_elimination.proofs.Simple.{no_quantifiers}
-use Rattle.hs_cooper.specs.Reading.{form_of}
+use Rattle.hs_cooper_forms.specs.Reading.{form_of}
 use Rattle.hs_cooper.proofs.Searches.{told}
 use Rattle.hs_cooper.proofs.search.is_true.Goals as goal
 

@@ -5,7 +5,7 @@ use Rattle.std.proofs.lemmas.Int.{to_z-of_z}
 use Rattle.hs_pure.specs.Eval.{stack_of}
 use Rattle.hs_elimination.specs.Linear.{place}
 use Rattle.hs_elimination.specs.Witness.{first_to, low_at}
-use Rattle.hs_cooper.specs.Reading.{form_of}
+use Rattle.hs_cooper_forms.specs.Reading.{form_of}
 use Rattle.hs_cooper.proofs.Searches.{to_next, to_here, refused_first}
 use Rattle.hs_cooper.proofs.search.low.Goals as goal
 

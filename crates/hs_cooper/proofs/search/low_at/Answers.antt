@@ -2,7 +2,7 @@ use Rattle.std.proofs.Common.{rules, sym, ◌∙◌, subst, inl, inr, FitsSigned
 use mir.Syntax.{w128}
 use Rattle.hs_pure.specs.Eval.{stack_of}
 use Rattle.hs_elimination.specs.Witness.{low_value}
-use Rattle.hs_cooper.specs.Reading.{form_of}
+use Rattle.hs_cooper_forms.specs.Reading.{form_of}
 use Rattle.hs_cooper.proofs.Searches.{low_is, refused_low, refused_number}
 use Rattle.hs_cooper.proofs.search.low_at.Goals as goal
 

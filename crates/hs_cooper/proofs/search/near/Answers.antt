@@ -5,7 +5,7 @@ use Rattle.std.proofs.lemmas.Int.{to_z-of_z}
 use Rattle.hs_pure.specs.Eval.{stack_of}
 use Rattle.hs_elimination.specs.Linear.{place}
 use Rattle.hs_elimination.specs.Witness.{first_near_bound}
-use Rattle.hs_cooper.specs.Reading.{form_of}
+use Rattle.hs_cooper_forms.specs.Reading.{form_of}
 use Rattle.hs_cooper.proofs.Searches.{among_next, among_here, among_end}
 use Rattle.hs_cooper.proofs.search.near.Goals as goal
 

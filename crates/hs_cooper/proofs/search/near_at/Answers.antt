@@ -1,6 +1,6 @@
 use Rattle.std.proofs.Common.{rules}
 use Rattle.hs_pure.specs.Eval.{stack_of}
-use Rattle.hs_cooper.specs.Reading.{form_of}
+use Rattle.hs_cooper_forms.specs.Reading.{form_of}
 use Rattle.hs_cooper.proofs.Searches.{refused_near}
 use Rattle.hs_cooper.proofs.search.near_at.Goals as goal
 

@@ -10,7 +10,7 @@ use Rattle.hs_elimination.specs.Cases.{stage3}
 use Rattle.hs_elimination.specs.Elimination.{normal_form, HasWideSum}
 use Rattle.hs_elimination.specs.Normal.{evaluate}
 use Rattle.hs_elimination.proofs.Elimination.{multiplier-positive}
-use Rattle.hs_cooper.specs.Reading.{form_of}
+use Rattle.hs_cooper_forms.specs.Reading.{form_of}
 use Rattle.hs_cooper.specs.Surveying.{HasPositive}
 use Rattle.hs_cooper.proofs.Thirds.{wide_given}
 use Rattle.hs_cooper.proofs.Whole.{small_scaled, positive-second}

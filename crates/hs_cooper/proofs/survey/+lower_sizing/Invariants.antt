@@ -1,6 +1,6 @@
 use Rattle.std.proofs.Common.{◌≡◌, ◌+◌, map, take, min, sum}
 use Rattle.hs_elimination.specs.Linear.{place}
-use Rattle.hs_cooper.specs.Reading.{form_of}
+use Rattle.hs_cooper_forms.specs.Reading.{form_of}
 use Rattle.hs_cooper.specs.Surveying.{low_atoms}
 use Rattle.hs_cooper.proofs.survey.+lower_sizing.Given as goal
 

@@ -1,7 +1,7 @@
 use Rattle.std.proofs.Common.{arith, subst, SomeIff, ◌<◌, ◌^◌}
 use Rattle.hs_elimination.specs.Linear.{place}
 use Rattle.hs_elimination.proofs.Elimination.{multiplier-positive}
-use Rattle.hs_cooper.specs.Reading.{form_of}
+use Rattle.hs_cooper_forms.specs.Reading.{form_of}
 use Rattle.hs_cooper.proofs.Surveys.{multiplier-Joined, multiplier_next, multiplier_stops}
 use Rattle.hs_cooper.proofs.survey.+multiplying.Goals as goal
 

@@ -1,6 +1,6 @@
 use Rattle.std.proofs.Common.{◌≡◌, ◌+◌, map, take, min, sum}
 use Rattle.hs_elimination.specs.Form.{atoms}
-use Rattle.hs_cooper.specs.Reading.{form_of}
+use Rattle.hs_cooper_forms.specs.Reading.{form_of}
 use Rattle.hs_cooper.proofs.survey.+sizing.Given as goal
 
 abbrev pub invariant-count_all_atoms-loop-f : goal.invariant-count_all_atoms-loop-f

@@ -3,12 +3,12 @@ use Rattle.std.specs.List.{Contains}
 use Rattle.hs_elimination.specs.Linear.{place, times, IsWideLin}
 use Rattle.hs_elimination.specs.Cases.{join_distinct}
 use Rattle.hs_pure.specs.declared.lin.Lin.{Lin}
-use Rattle.hs_cooper.specs.Reading.{form_of}
+use Rattle.hs_cooper_forms.specs.Reading.{form_of}
 use Rattle.hs_cooper.specs.Bounding.{denied_bounds}
 use Rattle.hs_cooper.proofs.Thirds.{long_period, bounds_over, total_is, not_above, wide-bound, bounds-are, wide_given}
-use Rattle.hs_cooper.proofs.Narrow.{narrow_bounds}
+use Rattle.hs_cooper.proofs.NarrowStages.{narrow_bounds}
 use Rattle.hs_cooper.proofs.third.count_cases.Goals as goal
-use Rattle.hs_cooper.proofs.Narrow.{narrow_bounds}
+use Rattle.hs_cooper.proofs.NarrowStages.{narrow_bounds}
 use Rattle.hs_cooper.proofs.third.count_cases.Goals.{then-atoms-eq0, else-atoms-eq0}
 
 pub returns-in_default-clause-atoms : goal.returns-in_default-clause-atoms

@@ -4,9 +4,9 @@ use Rattle.hs_pure.specs.declared.lin.Lin.{Lin}
 use Rattle.hs_elimination.specs.Linear.{place, IsWideLin}
 use Rattle.hs_elimination.specs.Cases.{distinct_bounds, cooper}
 use Rattle.hs_elimination.specs.Normal.{evaluate}
-use Rattle.hs_cooper.specs.Reading.{form_of}
+use Rattle.hs_cooper_forms.specs.Reading.{form_of}
 use Rattle.hs_cooper.proofs.Thirds.{wide-cases, stage3-joined, wide_given, refused_to}
-use Rattle.hs_cooper.proofs.Narrow.{narrow-stage3}
+use Rattle.hs_cooper.proofs.NarrowStages.{narrow-stage3}
 use Rattle.hs_cooper.proofs.third.third_stage.Goals as goal
 
 pub returns-in_err-cases-clause-wide : goal.returns-in_err-cases-clause-wide
