@@ -31,6 +31,42 @@ equations() { # equations COUNT: one entailment of so many equations a side
   echo ';'
 }
 
+names() { # names COUNT: one entailment of so many free names; 1000 are allowed
+  printf 'entail a0 = null'
+  seq -s '' -f ' & a%.0f = null' "$1" | tr -d '\n'
+  echo ' |- a0 = null;'
+}
+
+right() { # right COUNT: one entailment of 990 names on the left and of so many equations on the right
+  printf 'entail a0 = null'
+  seq -s '' -f ' & a%.0f = null' 989 | tr -d '\n'
+  printf ' |- b = b'
+  seq -s '' -f ' & b = %.0f' "$1"
+  echo ';'
+}
+
+bound() { # bound COUNT: one entailment of so many binders
+  printf 'entail exists b0'
+  seq -s '' -f ', b%.0f' "$1" | tr -d '\n'
+  echo '. emp |- emp;'
+}
+
+sum() { # sum COUNT: one sum of so many names, of 900
+  printf 'entail a0'
+  for i in $(seq "$1"); do printf ' + a%d' $((i % 900)); done
+  echo ' = 0 |- emp;'
+}
+
+nodes() { # nodes COUNT: so many data types; 256 are allowed
+  seq -f 'data d%.0f { int v; }' "$1"
+}
+
+locals() { # locals COUNT: a method of so many locals
+  echo 'method m() requires emp ensures emp; {'
+  seq -f 'int x%.0f = 0;' "$1"
+  echo '}'
+}
+
 blanks() { # blanks BYTES: blanks and comments alone
   head -c "$1" < <(yes '  // nothing but a comment')
 }
@@ -57,5 +93,11 @@ printf '%-18s %9s %8s %8s\n' source bytes seconds MB
 for count in 64 256 1024; do claims $count > claims-$count; measure claims-$count; done
 for count in 16 64; do chain $count > chain-$count; measure chain-$count; done
 for count in 1000 10000 36000; do equations $count > equations-$count; measure equations-$count; done
+for count in 8000 64000; do names $count > names-$count; measure names-$count; done
+for count in 8000 80000; do right $count > right-$count; measure right-$count; done
+for count in 10000 110000; do bound $count > bound-$count; measure bound-$count; done
+for count in 10000 140000; do sum $count > sum-$count; measure sum-$count; done
+for count in 4000 36000; do nodes $count > nodes-$count; measure nodes-$count; done
+for count in 4000 50000; do locals $count > locals-$count; measure locals-$count; done
 for bytes in 262144 1048576; do blanks $bytes > blanks-$bytes; measure blanks-$bytes; done
 for count in 64 256 1024; do resolved $count > resolved-$count; measure resolved-$count; done

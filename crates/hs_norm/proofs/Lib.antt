@@ -2,3 +2,4 @@ pub mod Builders
 pub mod Directories
 pub mod Lists
 pub mod Stages
+pub mod Answered

@@ -21,7 +21,8 @@ fn is_open(left: &Formula, right: &Formula, v: Var) -> bool
     right.has(v) && !left.has(v)
 }
 
-// Those that are free on the right and not on the left.
+// Those that are free on the right and not on the left. Names beyond the limit all have the number 0, so what
+// is found of it is kept.
 fn opens_among(
     alloc: Global,
     vars: &[Var],
@@ -31,8 +32,29 @@ fn opens_among(
     ensures { IfOk result (λ all. all ≡ spec.opens_among vars.now left.now right.now) }
 {
     let mut opens = Items::new(alloc);
+    let number = is_open(
+        left,
+        right,
+        Var {
+            number: 0,
+            bag: false,
+        },
+    );
+    let bag = is_open(
+        left,
+        right,
+        Var {
+            number: 0,
+            bag: true,
+        },
+    );
     for v in vars {
-        if is_open(left, right, *v) {
+        let open = match (v.number, v.bag) {
+            (0, false) => number,
+            (0, true) => bag,
+            _ => is_open(left, right, *v),
+        };
+        if open {
             opens.push(*v)?;
         }
     }

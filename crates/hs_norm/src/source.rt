@@ -3,11 +3,12 @@
 ghost use Rattle.std.specs.Prelude.{◌≡◌, ◌<◌, ◌^◌, length, map, is_some, IfOk, OnOk};
 ghost use Rattle.std.specs.List.{filter_map};
 ghost use Rattle.hs_numbering.specs.Numbering.{Builds, each_counted};
+ghost use Rattle.hs_numbering.specs.Least as first;
 ghost use Rattle.hs_norm.specs.Claims as claims;
 ghost use Rattle.hs_norm.specs.Declaring as declared;
 ghost use Rattle.hs_norm.specs.Definitions as definitions;
 ghost use Rattle.hs_norm.specs.Normal as spec;
-ghost use Rattle.hs_norm_formula.specs.Numbered.{Gives};
+ghost use Rattle.hs_norm_formula.specs.Numbered.{Gives, outcome};
 
 use crate::block::block;
 use crate::claim::limit;
@@ -24,7 +25,7 @@ use crate::table::Table;
 use crate::types::{optional_type, type_of};
 use hs_heap::{Defs, Lemma, NodeDef, PredDef};
 use hs_norm_formula::{NormError, error_of};
-use hs_numbering::{Limit, Names, Numbering, Problem, Reading, is_upper, least};
+use hs_numbering::{Fault, Limit, Names, Numbering, Problem, Reading, is_upper, least};
 use hs_pure::NoMemory;
 use hs_tree::{Ident, MethodSource, PairSource, ParamTree, Source, SourceItem};
 use sqlite_items::Items;
@@ -386,6 +387,16 @@ fn items_normal(
     })
 }
 
+// What was built, or the error of the first fault.
+fn first_fault(alloc: Global, found: Resolved, faults: &[Fault]) -> Result<Resolved, NormError>
+    ensures { Gives (outcome (first.least faults.now) found) result }
+{
+    match least(faults) {
+        None => Ok(found),
+        Some(fault) => Err(error_of(alloc, fault)?),
+    }
+}
+
 /// The normal form of a source of fewer than 2^32 items, or its first fault in the order of the text; of
 /// several at one place the one that `NormError` lists first.
 pub fn normal(alloc: Global, source: &Source) -> Result<Resolved, NormError>
@@ -394,8 +405,5 @@ pub fn normal(alloc: Global, source: &Source) -> Result<Resolved, NormError>
 {
     let mut n = Numbering::new(alloc, Reading::Closed);
     let found = items_normal(alloc, &mut n, source.items.as_slice())?;
-    match least(n.faults.as_slice()) {
-        None => Ok(found),
-        Some(fault) => Err(error_of(alloc, fault)?),
-    }
+    first_fault(alloc, found, n.faults.as_slice())
 }

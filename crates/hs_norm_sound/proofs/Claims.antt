@@ -91,11 +91,8 @@ widens_later n m few x = record {
     given : (k : ℕ) → k < next n → k ≤ length n.names
     given k lt = let is = next_is n few in omega arith
 
-next_few : (n : Numbering) → length n.names ≤ 1000 → next n ≤ 1001
+pub next_few : (n : Numbering) → length n.names ≤ 1000 → next n ≤ 1001
 next_few n few = let is = next_is n few in omega arith
-
-pub next_low : (n : Numbering) → length n.names ≤ 1000 → next n ≤ 1024
-next_low n few = let le = next_few n few in omega arith
 
 pub next_later : (n m : Numbering) → length n.names ≤ 1000 → length m.names ≤ 1000 → length n.names ≤ length m.names → next n ≤ next m
 next_later n m a b le = let x = next_is n a in let y = next_is m b in omega arith

@@ -36,7 +36,7 @@ use Rattle.hs_norm_sound.proofs.Passing.{counted_all, each_keeps}
 use Rattle.hs_norm_sound.proofs.Stays.{FaultsStay, limit_same, fix_keeps, give_keeps, variant_keeps, learn_res_keeps}
 use Rattle.hs_norm_sound.proofs.Fixing.{Fixing, give_is, fixing_start, fixing_fix, fixing_all, fix_is, settled_of, free_fixed}
 use Rattle.hs_norm_sound.proofs.Definitions.{free_stays}
-use Rattle.hs_norm_sound.proofs.Claims.{next_low, next_later}
+use Rattle.hs_norm_sound.proofs.Claims.{next_few, next_later}
 use Rattle.hs_norm_sound.proofs.Wider.{Widens, Binders, formula_wider, formula_higher, next_is}
 
 -- ---- parameters
@@ -292,6 +292,9 @@ both a b c h g = omega arith
 chain : (a b c d : ℕ) → a ≤ b → b ≤ c → c ≤ d → a ≤ d
 chain a b c d h g f = omega arith
 
+below_next : (k a b c next : ℕ) → k ≤ a → a ≤ b → b ≤ c → next ≡ c + 1 → k < next
+below_next k a b c next h g f e = omega arith
+
 logic_high : (k : ℕ) (n m : Numbering) → length n.names ≡ suc k → n.known ≡ [] → Extends n m → All (λ (v : Var). suc k < v.number) (vars_of m.known)
 logic_high k n m long none x =
     let is : m.known ≡ x.known.0 = x.known.1 ∙ ap (λ ms. ms ++ x.known.0) none in
@@ -342,7 +345,8 @@ module _ (formulas : FormulasFit) (numbers : NumbersFit) (stay : FaultsStay) (de
         normal = record {
           distinct = distinct_right (param_vars k) logic (subst AreDistinct free5 pre.settled.distinct);
           numbered = λ i d lt. (high i d lt, logic_low s5 s9 pre.settled post.settled.few later i d lt);
-          bounded = next_low s9 post.settled.few;
+          result = below_next (suc k) (length s7.names) (length s8.names) (length s9.names) (next s9) grown names8 post.extends.names (next_is s9 post.settled.few);
+          bounded = next_few s9 post.settled.few;
           pre = formula_higher defs (param_vars k ++ logic) (next s5) (next s9) le (formula table p.pre s4).0 pre_fits;
           pre_apart = formula_wider (param_vars k ++ logic) (param_vars k ++ res_var k ∷ logic) (λ u. suc k < u.number) (widens_beside k logic) (next s5) (next s9) le defs (formula table p.pre s4).0
               (binders_new (suc k) (length s4.names) (same_length (suc k) (length s4.names) r4.0.names) (formula table p.pre s4).0 pre.new) pre_fits;

@@ -62,7 +62,9 @@ VariantFits free (Some a) = LinIsLight a × LinIsOrdered a × AreAmong (λ v. in
 pub record PairIsNormal (defs : Defs) (k : ℕ) (p : PairTree) : Type 0 where
   pub distinct : AreDistinct p.logic
   pub numbered : All (λ v. (suc k < v.number) × (v.number < p.next)) p.logic
-  pub bounded : p.next ≤ 1024
+  -- the number of `res` is given, also where no formula names it
+  pub result : suc k < p.next
+  pub bounded : p.next ≤ 1001
   pub pre : FormulaFits defs (param_vars k ++ p.logic) p.next p.pair_pre
   -- the precondition does not bind `res` either
   pub pre_apart : FormulaFits defs (param_vars k ++ res_var k ∷ p.logic) p.next p.pair_pre
