@@ -1,5 +1,5 @@
 -- What is known of bodies and invariants at a root and arguments.
-use Rattle.std.proofs.Common.{◌≡◌, ℕ, suc, zero, ◌<◌, ◌≤◌, true, ◌||◌, IsTrue, ◌⊎◌, List, [], ◌∷◌, map, Option, Some, None, slice_get, option_map, refl, sym, ap, ◌∙◌, subst}
+use Rattle.std.proofs.Common.{◌≡◌, ℕ, suc, zero, ◌<◌, ◌≤◌, true, false, ◌||◌, IsTrue, ◌⊎◌, List, [], ◌∷◌, map, Option, Some, None, slice_get, option_map, refl, sym, ap, ◌∙◌, subst}
 use Rattle.std.specs.List.{list_any, All, AllByRecursion}
 use Rattle.std.proofs.lemmas.List.Elements.{All-nil, All-cons, All-head, All-tail}
 use Rattle.hs_pure.specs.declared.var.Var.{Var}
@@ -89,25 +89,25 @@ module _ (defs : Defs) (ρ : Var → Var) (keep : KeepsKinds ρ) where
       (keep a.root ∙ g.0, g.1 ∙ ap (λ ks. Some ks) (sym (kinds_renamed a.args)))
       (atoms_fit_renamed rest (All-tail (AtomFits defs) a rest f))
 
-module _ (defs : Defs) (b : Body) (fits : BodyFits defs b) (root : Var) (args : List Var) (n : ℕ) (at : ArgumentsFit b.params root args n) where
-  abbrev Fits : Disjunct → Type 0
-  Fits d = CaseFits defs (self_var ∷ b.params) b.next d
-
-  keeps : KeepsKinds (body_renaming b root args n)
+module _ (defs : Defs) (b : Body) (root : Var) (args : List Var) (n : ℕ) (root_kind : root.bag ≡ false) (arity : kinds b.params ≡ kinds args) where
+  pub keeps : KeepsKinds (body_renaming b root args n)
   keeps v =
-      let root_kind = at.number_root in let arity = at.arity in
       let all_kinds : kinds (self_var ∷ b.params) ≡ kinds (root ∷ args) = λ i. sym root_kind i ∷ arity i in
       put-kind (self_var ∷ b.params) (root ∷ args) (new_number b n) v all_kinds refl
 
+  abbrev Fits : Disjunct → Type 0
+  Fits d = CaseFits defs (self_var ∷ b.params) b.next d
+
+  pub cases_atoms_fit : (ds : List Disjunct) → All Fits ds → CasesAtomsFit defs (map (renamed_disjunct (body_renaming b root args n)) ds)
+  cases_atoms_fit [] f = tt
+  cases_atoms_fit (d ∷ ds) f = (atoms_fit_renamed defs (body_renaming b root args n) keeps d.atoms (All-head Fits d ds f).atoms, cases_atoms_fit ds (All-tail Fits d ds f))
+
+module _ (defs : Defs) (b : Body) (fits : BodyFits defs b) (root : Var) (args : List Var) (n : ℕ) (at : ArgumentsFit b.params root args n) where
   pub body_uses : Passing (IsPlacedIn (root ∷ args) n (next_after b n)) (λ v. occurs_in_formula v (instantiated b root args n))
   body_uses v o = (instantiated_binds_new defs b root args n fits at v).2 o
 
   pub body_atoms_fit : CasesAtomsFit defs (instantiated b root args n).cases
-  body_atoms_fit = go b.formula.cases fits
-    where
-      go : (ds : List Disjunct) → All Fits ds → CasesAtomsFit defs (map (renamed_disjunct (body_renaming b root args n)) ds)
-      go [] f = tt
-      go (d ∷ ds) f = (atoms_fit_renamed defs (body_renaming b root args n) keeps d.atoms (All-head Fits d ds f).atoms, go ds (All-tail Fits d ds f))
+  body_atoms_fit = cases_atoms_fit defs b root args n at.number_root at.arity b.formula.cases fits
 
   pub body_binds : CasesBindFrom n (instantiated b root args n).cases
   body_binds = go (instantiated b root args n).cases (λ v k. (instantiated_binds_new defs b root args n fits at v).0 k)

@@ -9,3 +9,4 @@ mod Building
 mod Steps
 mod Capped
 mod Own
+mod Closed

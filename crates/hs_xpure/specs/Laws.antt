@@ -1,20 +1,22 @@
 -- What the layers above use of approximations.
-use Rattle.std.specs.Prelude.{◌≡◌, ℕ, ◌<◌, ◌≤◌, ◌⊎◌, IsTrue, List}
+use Rattle.std.specs.Prelude.{◌≡◌, ℕ, ◌<◌, ◌≤◌, ◌⊎◌, false, IsTrue, List, Some}
 use Rattle.std.specs.List.{All, list_any}
 use Rattle.hs_pure.specs.declared.var.Var.{Var}
 use Rattle.hs_pure.specs.declared.pure.Pure.{Pure}
 use Rattle.hs_pure.specs.Stack.{Stack}
 use Rattle.hs_pure.specs.Truth.{TrueAt}
-use Rattle.hs_pure.specs.Occurs.{occurs}
+use Rattle.hs_pure.specs.Occurs.{occurs, has_bags}
+use Rattle.hs_pure.specs.Sums.{IsOrdered}
 use Rattle.hs_heap.specs.declared.formula.Atom.{Atom}
 use Rattle.hs_heap.specs.declared.formula.Disjunct.{Disjunct}
+use Rattle.hs_heap.specs.declared.definitions.PredDef.{PredDef}
 use Rattle.hs_heap.specs.declared.definitions.Defs.{Defs}
 use Rattle.hs_heap.specs.Heap.{Heap, IsHeap}
-use Rattle.hs_heap.specs.Meaning.{AllTrueAt, SatisfiesAtoms}
+use Rattle.hs_heap.specs.Meaning.{pred_at, AllTrueAt, SatisfiesAtoms}
 use Rattle.hs_heap.specs.Variables.{in_atom}
 use Rattle.hs_heap.specs.Sound.{AtomFits, IsSound}
 use Rattle.hs_xpure.specs.Approximation.{approximation_of, next_of, xpure_of}
-use Rattle.hs_xpure.specs.Invariants.{InvariantsHold, InvariantFollows}
+use Rattle.hs_xpure.specs.Invariants.{invariant_premise, InvariantsHold, InvariantFollows}
 
 -- v is the root or an argument of one of the atoms
 abbrev pub IsInAtoms : List Atom → Var → Type 0
@@ -50,3 +52,26 @@ abbrev pub NewNumbersAreInRange : Type 0
 NewNumbersAreInRange = (defs : Defs) → IsSound defs → (level n : ℕ) (atoms : List Atom) → AtomsFit defs atoms n →
     (n ≤ next_of defs level atoms n)
     × All (λ p. (v : Var) → IsTrue (occurs v p) → IsInAtoms atoms v ⊎ IsBetween n (next_of defs level atoms n) v) (approximation_of defs level atoms n)
+
+-- no conjunct of a body and no invariant has a bag literal
+abbrev pub HasNoBags : Defs → Type 0
+HasNoBags defs = All (λ p. (has_bags p.inv ≡ false) × All (λ d. All (λ q. has_bags q ≡ false) d.pure) p.body.cases) defs.preds
+
+-- what `implies` asks of a formula
+abbrev pub CanBeAsked : Pure → Type 0
+CanBeAsked p = IsOrdered p × (has_bags p ≡ false)
+
+-- the sums of the approximation are in order
+abbrev pub ApproximationIsOrdered : Type 0
+ApproximationIsOrdered = (defs : Defs) → IsSound defs → (level n : ℕ) (atoms : List Atom) → All (AtomFits defs) atoms →
+    All IsOrdered (approximation_of defs level atoms n) × IsOrdered (xpure_of defs level atoms n)
+
+-- where the definitions have no bag literal, the approximation has none
+abbrev pub ApproximationHasNoBags : Type 0
+ApproximationHasNoBags = (defs : Defs) → IsSound defs → HasNoBags defs → (level n : ℕ) (atoms : List Atom) → All (AtomFits defs) atoms →
+    All (λ p. has_bags p ≡ false) (approximation_of defs level atoms n) × (has_bags (xpure_of defs level atoms n) ≡ false)
+
+-- the question that shows an invariant may be asked
+abbrev pub PremiseCanBeAsked : Type 0
+PremiseCanBeAsked = (defs : Defs) → IsSound defs → HasNoBags defs → (pred : ℕ) (p : PredDef) → pred_at defs pred ≡ Some p →
+    CanBeAsked (invariant_premise defs p) × CanBeAsked p.inv

@@ -1,6 +1,6 @@
 //! Laws of approximations, for the proofs of the layers above. Each is the contract of a function without a body.
 
-ghost use Rattle.hs_xpure.specs.Laws.{ApproximationIsTrue, InvariantsAreShown, NewNumbersAreInRange};
+ghost use Rattle.hs_xpure.specs.Laws.{ApproximationIsTrue, InvariantsAreShown, NewNumbersAreInRange, ApproximationIsOrdered, ApproximationHasNoBags, PremiseCanBeAsked};
 
 /// Where invariants hold and a heap satisfies atoms, their approximation is true at every level, for some values
 /// of its new numbers.
@@ -17,4 +17,19 @@ pub fn invariants_are_shown()
 /// the next one.
 pub fn new_numbers_are_in_range()
     ensures { NewNumbersAreInRange }
+{}
+
+/// The sums of the approximation of atoms are in order.
+pub fn approximation_is_ordered()
+    ensures { ApproximationIsOrdered }
+{}
+
+/// Where no body and no invariant has a bag literal, the approximation of atoms has none.
+pub fn approximation_has_no_bags()
+    ensures { ApproximationHasNoBags }
+{}
+
+/// The question that shows an invariant is one that `implies` takes.
+pub fn premise_can_be_asked()
+    ensures { PremiseCanBeAsked }
 {}
