@@ -8,3 +8,9 @@ returns-in-Some-clause-value c =
     let e : c.in-Some.n ≡ lcm c.args.m c.args.d = rw c.from.ensures at c.in-Some.ensures.1 in
     let up = lcm_positive c.args.m c.args.d c.requires.positive (omega arith) in
     record { value = e; positive = omega (arith, e, up); within = omega arith }
+
+pub returns-in-Some-clause-over : goal.returns-in-Some-clause-over
+returns-in-Some-clause-over c = λ e p. absurd (cc e)
+
+pub returns-then-d-eq0-clause-over : goal.returns-then-d-eq0-clause-over
+returns-then-d-eq0-clause-over c = λ e p. absurd (omega (arith, c.if-d-eq0.true, p))

@@ -1,5 +1,5 @@
-use Rattle.std.proofs.Common.{◌≡◌, true, sym, subst}
-use Rattle.hs_pure.specs.Eval.{stack_of}
+use Rattle.std.proofs.Common.{◌≡◌, true, inl, inr, rules, sym, subst}
+use Rattle.hs_pure.specs.Eval.{stack_of, NumbersFit}
 use Rattle.hs_elimination.specs.Normal.{is_simple}
 use Rattle.hs_elimination.proofs.Order.{simple-assertion}
 use Rattle.hs_elimination.proofs.Simple.{no_quantifiers}
@@ -12,3 +12,9 @@ eval-requires c = record { no_quantifiers = no_quantifiers c.in_ok-p.p (subst (�
 
 pub returns-in-Ok-clause-truth : goal.returns-in-Ok-clause-truth
 returns-in-Ok-clause-truth c = told (stack_of c.args.v.now) (form_of c.args.f.now) c.in_ok-p.p c.in-Ok.truth c.in_ok-p.ensures.form c.in-Ok.ensures.truth
+
+pub returns-in_err-p-clause-wide : goal.returns-in_err-p-clause-wide
+returns-in_err-p-clause-wide c = λ h. inl (c.in_err-p.ensures.wide (search rules))
+
+pub returns-clause-wide : goal.returns-clause-wide
+returns-clause-wide c = λ _. inr (λ h. c.in-Err.ensures.wide (subst (NumbersFit (stack_of c.args.v.now)) (sym c.in_ok-p.ensures.form) h))
