@@ -26,3 +26,4 @@ pub mod Seeing
 pub mod SameNames
 pub mod Naming
 pub mod Instances
+pub mod Pieces

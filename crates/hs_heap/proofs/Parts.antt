@@ -68,6 +68,19 @@ all_parts qs = record {
 abbrev pub counted : ℕ → ℕ → Parts → Parts
 counted m n q = record q { fits = λ s. not (m == 1) && q.fits s; counts = n ∷ q.counts }
 
+-- ---- terms in order
+
+pub rises_told : (n : ℕ) (ts : List (Var × ℤ)) → Tells (rises_from n ts) (RisesFrom n ts)
+rises_told n [] = (λ h. tt, λ h. refl)
+rises_told n (t ∷ ts) = tells (rises_from n (t ∷ ts)) ((n ≤ t.0.number) × ((t.0.bag ≡ false) × ((¬ (t.1 ≡ pos 0)) × RisesFrom (suc t.0.number) ts))) (RisesFrom n (t ∷ ts))
+    (tells_both (nat_le n t.0.number) (not t.0.bag && (not (int_eq t.1 (pos 0)) && rises_from (suc t.0.number) ts)) (n ≤ t.0.number) ((t.0.bag ≡ false) × ((¬ (t.1 ≡ pos 0)) × RisesFrom (suc t.0.number) ts)) (tells_le n t.0.number)
+    (tells_both (not t.0.bag) (not (int_eq t.1 (pos 0)) && rises_from (suc t.0.number) ts) (t.0.bag ≡ false) ((¬ (t.1 ≡ pos 0)) × RisesFrom (suc t.0.number) ts) (tells_not t.0.bag)
+    (tells_both (not (int_eq t.1 (pos 0))) (rises_from (suc t.0.number) ts) (¬ (t.1 ≡ pos 0)) (RisesFrom (suc t.0.number) ts) (not_true (int_eq t.1 (pos 0)) (t.1 ≡ pos 0) (int_told t.1)) (rises_told (suc t.0.number) ts))))
+    (λ h. (h.0, h.1.0, h.1.1.0, h.1.1.1)) (λ h. (h.0, (h.1, (h.2, h.3))))
+  where
+    int_told : (z : ℤ) → Tells (int_eq z (pos 0)) (z ≡ pos 0)
+    int_told z = (λ h. (Decides-int_eq z (pos 0)).0 h, λ h. (Decides-int_eq z (pos 0)).1 h)
+
 module _ (outer : Var → Bool) (next : ℕ) where
   abbrev pub under : Var → Parts → Parts
   under u q = record q {
@@ -202,17 +215,6 @@ module _ (outer : Var → Bool) (next : ℕ) where
       ))
 
   -- ---- sums and names
-
-  rises_told : (n : ℕ) (ts : List (Var × ℤ)) → Tells (rises_from n ts) (RisesFrom n ts)
-  rises_told n [] = (λ h. tt, λ h. refl)
-  rises_told n (t ∷ ts) = tells (rises_from n (t ∷ ts)) ((n ≤ t.0.number) × ((t.0.bag ≡ false) × ((¬ (t.1 ≡ pos 0)) × RisesFrom (suc t.0.number) ts))) (RisesFrom n (t ∷ ts))
-      (tells_both (nat_le n t.0.number) (not t.0.bag && (not (int_eq t.1 (pos 0)) && rises_from (suc t.0.number) ts)) (n ≤ t.0.number) ((t.0.bag ≡ false) × ((¬ (t.1 ≡ pos 0)) × RisesFrom (suc t.0.number) ts)) (tells_le n t.0.number)
-      (tells_both (not t.0.bag) (not (int_eq t.1 (pos 0)) && rises_from (suc t.0.number) ts) (t.0.bag ≡ false) ((¬ (t.1 ≡ pos 0)) × RisesFrom (suc t.0.number) ts) (tells_not t.0.bag)
-      (tells_both (not (int_eq t.1 (pos 0))) (rises_from (suc t.0.number) ts) (¬ (t.1 ≡ pos 0)) (RisesFrom (suc t.0.number) ts) (not_true (int_eq t.1 (pos 0)) (t.1 ≡ pos 0) (int_told t.1)) (rises_told (suc t.0.number) ts))))
-      (λ h. (h.0, h.1.0, h.1.1.0, h.1.1.1)) (λ h. (h.0, (h.1, (h.2, h.3))))
-    where
-      int_told : (z : ℤ) → Tells (int_eq z (pos 0)) (z ≡ pos 0)
-      int_told z = (λ h. (Decides-int_eq z (pos 0)).0 h, λ h. (Decides-int_eq z (pos 0)).1 h)
 
   terms_told : (s : Var → Bool) (ts : List (Var × ℤ)) → Tells (list_all (λ t. s t.0) ts) ((v : Var) → IsTrue (list_any (λ t. same t.0 v) ts) → IsTrue (s v))
   terms_told s [] = (λ h v k. none k, λ h. refl)

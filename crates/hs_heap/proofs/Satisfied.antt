@@ -1,6 +1,6 @@
 -- Satisfaction at each depth, as the layers above use it.
-use Rattle.std.proofs.Common.{◌≡◌, ℕ, IsTrue, [], map, refl, sym, ap, ◌∙◌}
-use Rattle.std.specs.List.{All}
+use Rattle.std.proofs.Common.{◌≡◌, ℕ, ◌||◌, IsTrue, List, [], ◌∷◌, map, refl, sym, ap, ◌∙◌}
+use Rattle.std.specs.List.{All, list_any}
 use Rattle.hs_pure.specs.declared.var.Var.{Var}
 use Rattle.hs_pure.specs.declared.pure.Pure.{Pure}
 use Rattle.hs_pure.specs.Stack.{Stack}
@@ -12,7 +12,16 @@ use Rattle.hs_heap.specs.Meaning.{argument_at, parameter_value, meaning_at_depth
 use Rattle.hs_heap.specs.Variables.{is_free_in_formula}
 use Rattle.hs_heap.specs.WellFormed.{IsProper}
 use Rattle.hs_heap.specs.Instance.{body_of_inv, instantiated_inv, stack_of_body}
-use Rattle.hs_heap.specs.Laws.{ConjunctsAreOfFree, AtomsAreOfVariables, SatisfactionIsOfFree, HasKinds, SatisfactionIsOfKinds, RenamedIsSatisfied, RenamedVariables, SoundBodiesFit, InstantiatedMeansBody, InstantiatedMeansInvariant, InstantiatedBindsNew}
+use Rattle.hs_heap.specs.Laws.{ApartMayRename, ConjunctsAreOfFree, AtomsAreOfVariables, SatisfactionIsOfFree, HasKinds, SatisfactionIsOfKinds, RenamedIsSatisfied, RenamedVariables, SoundBodiesFit, InstantiatedMeansBody, InstantiatedMeansInvariant, InstantiatedBindsNew}
+use Rattle.hs_pure.specs.Occurs.{occurs}
+use Rattle.hs_pure.specs.Rename.{InRange}
+use Rattle.hs_pure.specs.Sums.{IsOrdered}
+use Rattle.hs_pure.proofs.Vars.{or_left, or_right}
+use Rattle.hs_pure.proofs.Apart.{apart_in_range}
+use Rattle.std.proofs.lemmas.List.Elements.{All-nil, All-cons, All-head, All-tail}
+use Rattle.hs_heap.specs.Variables.{in_atom, occurs_in_disjunct}
+use Rattle.hs_heap.specs.Meaning.{is_in}
+use Rattle.hs_heap.proofs.Occurring.{bound_occurs}
 use Rattle.hs_heap.proofs.Free.{all_true_agrees, atoms_agree, cases_agree}
 use Rattle.hs_heap.proofs.Cleaning.{clean, KindsFit}
 use Rattle.hs_heap.proofs.CleaningHeaps.{CaseKindsFit, cases_clean, clean_cases, value_of_kind}
@@ -47,6 +56,21 @@ pub satisfaction_is_of_kinds : SatisfactionIsOfKinds
 satisfaction_is_of_kinds defs k f s t h kinds same =
     let fits : All CaseKindsFit f.cases = λ i d less. case_kinds _ (kinds i d less) in
     (of_kinds defs k f s t h fits same, of_kinds defs k f t s h fits (λ v e. sym (same v e)))
+
+pub apart_may_rename : ApartMayRename
+apart_may_rename ρ d ordered apart = (
+  λ u v b o e. apart u v (bound_occurs u d b) o e,
+  λ i p less. range d.pure ordered (λ u v o k e. apart u v (inside u o) (inside v k) e) i p less,
+)
+  where
+    inside : (v : Var) → IsTrue (list_any (occurs v) d.pure) → IsTrue (occurs_in_disjunct v d)
+    inside v o = or_right (is_in v d.bound) (list_any (in_atom v) d.atoms || list_any (occurs v) d.pure) (or_right (list_any (in_atom v) d.atoms) (list_any (occurs v) d.pure) o)
+
+    range : (ps : List Pure) → All IsOrdered ps → ((u v : Var) → IsTrue (list_any (occurs u) ps) → IsTrue (list_any (occurs v) ps) → ρ u ≡ ρ v → u ≡ v) → All (InRange ρ) ps
+    range [] o k = All-nil (InRange ρ)
+    range (p ∷ ps) o k = All-cons (InRange ρ) p ps
+        (apart_in_range ρ p (All-head IsOrdered p ps o) (λ u v a b. k u v (or_left (occurs u p) (list_any (occurs u) ps) a) (or_left (occurs v p) (list_any (occurs v) ps) b)))
+        (range ps (All-tail IsOrdered p ps o) (λ u v a b. k u v (or_right (occurs u p) (list_any (occurs u) ps) a) (or_right (occurs v p) (list_any (occurs v) ps) b)))
 
 pub renamed_is_satisfied : RenamedIsSatisfied
 renamed_is_satisfied ρ f keeps apart defs k s h = (

@@ -6,7 +6,7 @@ use Rattle.hs_pure.specs.declared.pure.Pure.{Pure}
 use Rattle.hs_pure.specs.Stack.{Stack}
 use Rattle.hs_pure.specs.Truth.{TrueAt}
 use Rattle.hs_pure.specs.Occurs.{is_free, is_bound, occurs}
-use Rattle.hs_pure.specs.Sums.{KeepsKinds}
+use Rattle.hs_pure.specs.Sums.{IsOrdered, KeepsKinds}
 use Rattle.hs_heap.specs.declared.formula.Of.{Of}
 use Rattle.hs_heap.specs.declared.formula.Atom.{Atom}
 use Rattle.hs_heap.specs.declared.formula.Disjunct.{Disjunct}
@@ -15,10 +15,10 @@ use Rattle.hs_heap.specs.declared.definitions.PredDef.{PredDef}
 use Rattle.hs_heap.specs.declared.definitions.Defs.{Defs}
 use Rattle.hs_heap.specs.Heap.{Heap}
 use Rattle.hs_heap.specs.Meaning.{argument_at, is_in, pred_at, meaning_at_depth, AllTrueAt, AtomsHold, SatisfiesAtDepth}
-use Rattle.hs_heap.specs.Variables.{in_atom, is_free_in_formula, occurs_in_formula}
+use Rattle.hs_heap.specs.Variables.{in_atom, occurs_in_disjunct, is_free_in_formula, occurs_in_formula}
 use Rattle.hs_heap.specs.WellFormed.{IsProper}
 use Rattle.hs_heap.specs.Sound.{IsSound}
-use Rattle.hs_heap.specs.Renamed.{renamed_formula, is_bound_in_formula, FormulaKeepsApart, IsImage}
+use Rattle.hs_heap.specs.Renamed.{renamed_formula, is_bound_in_formula, DisjunctKeepsApart, FormulaKeepsApart, DisjunctInRange, IsImage}
 use Rattle.hs_heap.specs.Instance.{Body, BodyFits, ArgumentsFit, body_of, body_of_inv, body_of_lemma, body_or_none, lemma_at, instantiated, instantiated_inv, next_after, stack_of_body}
 
 -- ---- stacks
@@ -56,6 +56,11 @@ SatisfactionIsOfKinds = (defs : Defs) (k : ℕ) (f : Formula) (s t : Stack) (h :
 -- what is bound occurs
 abbrev pub BoundOccurs : Type 0
 BoundOccurs = (p : Pure) (v : Var) → IsTrue (is_bound v p) → IsTrue (occurs v p)
+
+-- a renaming that keeps apart what occurs in a formula in order may rename it
+abbrev pub ApartMayRename : Type 0
+ApartMayRename = (ρ : Var → Var) (d : Disjunct) → All IsOrdered d.pure →
+    ((u v : Var) → IsTrue (occurs_in_disjunct u d) → IsTrue (occurs_in_disjunct v d) → ρ u ≡ ρ v → u ≡ v) → DisjunctKeepsApart ρ d × DisjunctInRange ρ d
 
 -- a renamed formula is satisfied where the formula is at the stack before the renaming
 abbrev pub RenamedIsSatisfied : Type 0

@@ -97,6 +97,44 @@ module _ (free : Var → Bool) (next : ℕ) where
   abbrev pub bound_fits : Var → Bool
   bound_fits v = number_fits next v && not (free v)
 
+-- ---- the form of a formula alone
+
+abbrev pub bag_formed_level : Bag-F Bool → Bool
+bag_formed_level Bag-F.Empty = true
+bag_formed_level (Bag-F.Name v) = v.bag
+bag_formed_level (Bag-F.One a) = rises_from 0 a.terms
+bag_formed_level (Bag-F.Union a b) = a && b
+bag_formed_level (Bag-F.Inter a b) = a && b
+bag_formed_level (Bag-F.Diff a b) = a && b
+
+abbrev pub bag_formed : Bag → Bool
+bag_formed = fold-Bag Bool bag_formed_level
+
+abbrev pub all_formed : List Bool → Bool
+all_formed ps = not (length ps == 1) && list_all (λ p. p) ps
+
+abbrev pub formed_level : Pure-F Bool → Bool
+formed_level (Pure-F.Eq a b) = rises_from 0 a.terms && rises_from 0 b.terms
+formed_level (Pure-F.Lt a b) = rises_from 0 a.terms && rises_from 0 b.terms
+formed_level (Pure-F.Le a b) = rises_from 0 a.terms && rises_from 0 b.terms
+formed_level (Pure-F.Divides d a) = rises_from 0 a.terms
+formed_level (Pure-F.BagEq a b) = bag_formed a && bag_formed b
+formed_level (Pure-F.Subset a b) = bag_formed a && bag_formed b
+formed_level (Pure-F.Member a b) = rises_from 0 a.terms && bag_formed b
+formed_level (Pure-F.AllOf u b p) = bag_formed b && (not u.bag && p)
+formed_level (Pure-F.Not p) = p
+formed_level (Pure-F.And ps) = all_formed ps
+formed_level (Pure-F.Or ps) = all_formed ps
+formed_level (Pure-F.Exists u p) = not u.bag && p
+formed_level (Pure-F.Forall u p) = not u.bag && p
+
+-- whether sums are in order, kinds fit and no connective has exactly one member
+abbrev pub formed : Pure → Bool
+formed = fold-Pure Bool formed_level
+
+abbrev pub plain_formed : Pure → Bool
+plain_formed p = is_bags_plain p && formed p
+
 abbrev pub are_distinct : List Var → Bool
 are_distinct [] = true
 are_distinct (v ∷ vs) = not (is_in v vs) && are_distinct vs

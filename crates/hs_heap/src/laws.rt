@@ -1,7 +1,7 @@
 //! Laws of formulas and definitions, for the proofs of the layers above. Each is the contract of a function
 //! without a body.
 
-ghost use Rattle.hs_heap.specs.Laws.{ArgumentsAreOfVariables, ConjunctsAreOfFree, AtomsAreOfVariables, SatisfactionIsOfFree, SatisfactionIsOfKinds, BoundOccurs, RenamedIsSatisfied, RenamedVariables, SoundBodiesFit, InstantiatedMeansBody, InstantiatedMeansInvariant, InstantiatedBindsNew};
+ghost use Rattle.hs_heap.specs.Laws.{ArgumentsAreOfVariables, ConjunctsAreOfFree, AtomsAreOfVariables, SatisfactionIsOfFree, SatisfactionIsOfKinds, BoundOccurs, ApartMayRename, RenamedIsSatisfied, RenamedVariables, SoundBodiesFit, InstantiatedMeansBody, InstantiatedMeansInvariant, InstantiatedBindsNew};
 
 /// Stacks that agree on variables give one list of arguments.
 pub fn arguments_are_of_variables()
@@ -31,6 +31,11 @@ pub fn satisfaction_is_of_kinds()
 /// What is bound occurs.
 pub fn bound_occurs()
     ensures { BoundOccurs }
+{}
+
+/// A renaming that keeps apart what occurs in a disjunct in order may rename it.
+pub fn apart_may_rename()
+    ensures { ApartMayRename }
 {}
 
 /// A renamed formula is satisfied where the formula is at the stack before the renaming.

@@ -109,7 +109,7 @@ fn terms_are_in(terms: &[(Var, i128)], scope: &Scope) -> bool
 }
 
 // Whether the terms are of number variables, by rising number and without coefficient 0.
-fn is_ordered(terms: &[(Var, i128)]) -> bool
+pub fn is_ordered(terms: &[(Var, i128)]) -> bool
     ensures { result ≡ rises_from 0 terms.now }
 {
     let mut least = 0;

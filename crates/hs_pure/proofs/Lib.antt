@@ -19,3 +19,5 @@ pub mod Size
 pub mod Loops
 pub mod Divides
 pub mod EvalStack
+pub mod Equating
+pub mod Apart

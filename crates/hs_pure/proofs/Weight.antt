@@ -1,5 +1,5 @@
 -- Sums whose coefficients add up to little stay in range under every renaming, and stay in order.
-use Rattle.std.proofs.Common.{◌≡◌, ℕ, zero, suc, ◌+◌, ◌<◌, ◌≤◌, ◌^◌, ℤ, pos, ◌+ℤ◌, unsigned_abs, Bool, true, false, nat_lt, List, [], ◌∷◌, ◌++◌, map, take, refl, sym, ap, ◌∙◌, subst, if◌then◌else◌, arith}
+use Rattle.std.proofs.Common.{◌≡◌, ℕ, zero, suc, ◌+◌, ◌<◌, ◌≤◌, ◌^◌, ℤ, pos, ◌+ℤ◌, unsigned_abs, Bool, true, false, nat_lt, List, [], ◌∷◌, ◌++◌, length, get_or, map, take, lit<, refl, sym, ap, ◌∙◌, subst, if◌then◌else◌, arith}
 use mir.Syntax.{w128}
 use Rattle.std.proofs.lemmas.Int.{ints, fits_signed_from_abs}
 use Rattle.std.proofs.lemmas.Bool.Decides.{Decides-int_eq, nat_tests}
@@ -15,7 +15,7 @@ use Rattle.hs_pure.specs.declared.pure.Pure.{Pure, map-Pure}
 use Rattle.hs_pure.specs.declared.pure.Pure.TheOpen.{Pure-F}
 use Rattle.hs_pure.specs.Stack.{same}
 use Rattle.hs_pure.specs.Occurs.{BagUse, bag_use, bag_use_level}
-use Rattle.hs_pure.specs.Rename.{add_term, renamed_terms, renamed_lin, renamed_bag, renamed_bag_level, renamed, renamed_level, bag_sums, bag_sums_level, sums, sums_level, TermsInRange, LinInRange, InRange}
+use Rattle.hs_pure.specs.Rename.{add_term, renamed_terms, renamed_lin, renamed_bag, renamed_bag_level, renamed, renamed_level, bag_sums, bag_sums_level, sums, sums_level, MergeFits, LinInRange, InRange}
 use Rattle.hs_pure.specs.Sums.{weight, LinIsLight, IsLight, RisesFrom, LinIsOrdered, IsOrdered, KeepsKinds}
 use Rattle.hs_pure.proofs.Vars.{same-eq, same-from}
 use Rattle.hs_pure.proofs.Levels.{related, Both, related_bag, BothBag}
@@ -41,22 +41,26 @@ module _ (ρ : Var → Var) where
   weight-fold [] sum = omega arith
   weight-fold (t ∷ ts) sum = let h = weight-add_term (ρ t.0) t.1 sum in let i = weight-fold ts (add_term (ρ t.0) t.1 sum) in omega arith
 
-  weight-take : (k : ℕ) (ts : List (Var × ℤ)) → weight (take k ts) ≤ weight ts
-  weight-take zero ts = omega arith
-  weight-take (suc k) [] = omega arith
-  weight-take (suc k) (t ∷ ts) = let h = weight-take k ts in omega arith
+  -- what is added to a light sum stays in range
+  merges_light : (v : Var) (c : ℤ) (ts : List (Var × ℤ)) (n : ℕ) → weight ts + unsigned_abs c ≤ n → n < 2 ^ 127 → MergeFits v c ts
+  merges_light v c [] n le lt i d less is = absurd (omega arith)
+  merges_light v c (t ∷ ts) n le lt zero d less is = let h = abs_add t.1 c in fits_signed_from_abs w128 (t.1 +ℤ c) (omega arith)
+  merges_light v c (t ∷ ts) n le lt (suc i) d less is = merges_light v c ts n (omega arith) lt i d (omega arith) is
 
-  each_below : (ts : List (Var × ℤ)) (n : ℕ) → weight ts ≤ n → n < 2 ^ 127 → TermsInRange ts
-  each_below [] n le lt i d less = absurd (omega arith)
-  each_below (t ∷ ts) n le lt zero d less = fits_signed_from_abs w128 t.1 (omega arith)
-  each_below (t ∷ ts) n le lt (suc i) d less = each_below ts n (omega arith) lt i d (omega arith)
+  -- the first terms and the next one weigh no more than all
+  weight-next : (k : ℕ) (ts : List (Var × ℤ)) (d : Var × ℤ) → k < length ts → weight (take k ts) + unsigned_abs (get_or ts k d).1 ≤ weight ts
+  weight-next k [] d less = absurd (omega arith)
+  weight-next zero (t ∷ ts) d less = omega arith
+  weight-next (suc k) (t ∷ ts) d less = let h = weight-next k ts d (omega arith) in omega arith
 
   pub lin_in_range : (a : Lin) → LinIsLight a → LinInRange ρ a
   lin_in_range a le = record {
-    sums_fit = λ k.
+    merges_fit = λ k d less.
+        let t = get_or a.terms k d in
         let h = weight-fold (take k a.terms) [] in
-        let i = weight-take k a.terms in
-        each_below (renamed_terms ρ (take k a.terms)) (2 ^ 126) (omega arith) (omega arith);
+        let i = weight-next k a.terms d less in
+        let j : 2 ^ 126 < 2 ^ 127 = lit< tt in
+        merges_light (ρ t.0) t.1 (renamed_terms ρ (take k a.terms)) (2 ^ 126) (omega arith) j;
   }
 
   -- a renamed sum weighs no more

@@ -1,5 +1,5 @@
 -- What the layers above use of formulas.
-use Rattle.std.specs.Prelude.{◌≡◌, ◌≤◌, ◌↔◌, IsTrue, ℤ, List}
+use Rattle.std.specs.Prelude.{◌≡◌, ◌≤◌, ◌↔◌, IsTrue, ℤ, List, Some}
 use Rattle.std.specs.List.{All, Any}
 use Rattle.hs_pure.specs.declared.var.Var.{Var}
 use Rattle.hs_pure.specs.declared.pure.Pure.{Pure}
@@ -12,6 +12,7 @@ use Rattle.hs_pure.specs.Occurs.{is_free, occurs, top_of, bag_use}
 use Rattle.hs_pure.specs.Rename.{renamed, InRange}
 use Rattle.hs_pure.specs.Eval.{stack_of, found_bag, listed_count}
 use Rattle.hs_pure.specs.Sums.{IsLight, IsOrdered, KeepsKinds}
+use Rattle.hs_pure.specs.Equated.{equated, equation}
 
 -- stacks that agree on the free variables give one truth
 abbrev pub TruthIsOfFree : Type 0
@@ -33,6 +34,11 @@ OrIsAny = (s : Stack) (ps : List Pure) → TrueAt s (pure_of.Or ps) ↔ Any (Tru
 abbrev pub LightIsInRange : Type 0
 LightIsInRange = (ρ : Var → Var) (p : Pure) → IsLight p → InRange ρ p
 
+-- a formula in order may be renamed by every renaming that keeps apart what occurs in it
+abbrev pub ApartIsInRange : Type 0
+ApartIsInRange = (ρ : Var → Var) (p : Pure) → IsOrdered p →
+    ((u v : Var) → IsTrue (occurs u p) → IsTrue (occurs v p) → ρ u ≡ ρ v → u ≡ v) → InRange ρ p
+
 abbrev pub RenamedIsLight : Type 0
 RenamedIsLight = (ρ : Var → Var) (p : Pure) → IsLight p → IsLight (renamed ρ p)
 
@@ -46,3 +52,7 @@ RenamedBagUse = (ρ : Var → Var) (p : Pure) → bag_use (renamed ρ p) ≡ bag
 -- a valuation gives each bag variable the counts that it lists
 abbrev pub ValuationCounts : Type 0
 ValuationCounts = (v : Valuation) (u : Var) (x : ℤ) → Multiset.count (stack_of v u).bag x ≡ listed_count (found_bag v.bags u) x
+
+-- exactly an equation between two variables equates them
+abbrev pub EquatedIs : Type 0
+EquatedIs = (p : Pure) (u v : Var) → (equated p ≡ Some (u, v)) ↔ (p ≡ equation u v)

@@ -6,6 +6,7 @@ pub mod Occurs
 pub mod Rename
 pub mod Mirror
 pub mod Sums
+pub mod Equated
 pub mod Laws
 pub mod Eval
 pub mod Values

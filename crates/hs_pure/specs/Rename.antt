@@ -1,5 +1,5 @@
 -- Variables in the place of others, at once.
-use Rattle.std.specs.Prelude.{◌≡◌, ℕ, ℤ, pos, ◌+ℤ◌, nat_lt, List, [], ◌∷◌, ◌++◌, if◌then◌else◌, IsTrue, take, FitsSigned}
+use Rattle.std.specs.Prelude.{◌≡◌, true, ℕ, ◌<◌, ℤ, pos, ◌+ℤ◌, nat_lt, List, [], ◌∷◌, ◌++◌, length, slice_index_or, if◌then◌else◌, IsTrue, take, FitsSigned}
 use Rattle.std.specs.List.{All, fold, flat_map}
 use mir.Syntax.{w128}
 use Rattle.std.specs.Ordering.{int_eq}
@@ -97,13 +97,14 @@ sums_level (Pure-F.Forall u p) = p
 abbrev pub sums : Pure → List Lin
 sums = fold-Pure (List Lin) sums_level
 
--- each coefficient is a number of the program
-abbrev pub TermsInRange : List (Var × ℤ) → Type 0
-TermsInRange ts = All (λ t. FitsSigned w128 t.1) ts
+-- where v has a term already, both coefficients add up to a number of the program
+abbrev pub MergeFits : Var → ℤ → List (Var × ℤ) → Type 0
+MergeFits v c ts = All (λ t. same t.0 v ≡ true → FitsSigned w128 (t.1 +ℤ c)) ts
 
--- what the terms of a sum add up to, one after another, are numbers of the program
+-- the terms of a sum that become terms of one variable, one after another, add up to numbers of the program
 pub record LinInRange (ρ : Var → Var) (a : Lin) : Type 0 where
-  pub sums_fit : (k : ℕ) → TermsInRange (renamed_terms ρ (take k a.terms))
+  pub merges_fit : (k : ℕ) (d : Var × ℤ) → k < length a.terms →
+      MergeFits (ρ (slice_index_or a.terms k d).0) (slice_index_or a.terms k d).1 (renamed_terms ρ (take k a.terms))
 
 -- the same of each sum of a bag
 pub record BagInRange (ρ : Var → Var) (b : Bag) : Type 0 where

@@ -1,6 +1,6 @@
 //! Laws of formulas, for the proofs of the layers above. Each is the contract of a function without a body.
 
-ghost use Rattle.hs_pure.specs.Laws.{TruthIsOfFree, FreeOccurs, OccursBelowTop, AndIsAll, OrIsAny, LightIsInRange, RenamedIsLight, RenamedIsOrdered, RenamedBagUse, ValuationCounts};
+ghost use Rattle.hs_pure.specs.Laws.{TruthIsOfFree, FreeOccurs, OccursBelowTop, AndIsAll, OrIsAny, LightIsInRange, ApartIsInRange, RenamedIsLight, RenamedIsOrdered, RenamedBagUse, ValuationCounts, EquatedIs};
 
 /// Stacks that agree on the free variables of a formula give it the same truth.
 pub fn truth_is_of_free()
@@ -32,6 +32,12 @@ pub fn light_is_in_range()
     ensures { LightIsInRange }
 {}
 
+/// A formula whose sums are in order may be renamed by every renaming that keeps its variables apart, however
+/// much its sums weigh.
+pub fn apart_is_in_range()
+    ensures { ApartIsInRange }
+{}
+
 /// A renamed formula is as light.
 pub fn renamed_is_light()
     ensures { RenamedIsLight }
@@ -50,4 +56,9 @@ pub fn renamed_bag_use()
 /// A valuation gives each bag variable the counts that it lists.
 pub fn valuation_counts()
     ensures { ValuationCounts }
+{}
+
+/// Exactly an equation between two variables equates them.
+pub fn equated_is()
+    ensures { EquatedIs }
 {}

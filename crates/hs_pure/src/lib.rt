@@ -8,6 +8,8 @@
 #![tactic(auto)]
 
 mod bag;
+mod equality;
+mod equated;
 mod eval;
 mod laws;
 mod lin;
@@ -20,8 +22,9 @@ mod var;
 pub use bag::Bag;
 pub use eval::Wide;
 pub use laws::{
-    and_is_all, free_occurs, light_is_in_range, occurs_below_top, or_is_any, renamed_bag_use,
-    renamed_is_light, renamed_is_ordered, truth_is_of_free, valuation_counts,
+    and_is_all, apart_is_in_range, equated_is, free_occurs, light_is_in_range, occurs_below_top,
+    or_is_any, renamed_bag_use, renamed_is_light, renamed_is_ordered, truth_is_of_free,
+    valuation_counts,
 };
 pub use lin::Lin;
 pub use memory::NoMemory;

@@ -1,6 +1,6 @@
 ghost use Rattle.std.specs.Prelude.{◌≡◌, IfOk, OnOk};
 ghost use Rattle.hs_pure.specs.Occurs.{in_lin, lin_top};
-ghost use Rattle.hs_pure.specs.Rename.{renaming, renamed_lin, add_term, LinInRange, TermsInRange};
+ghost use Rattle.hs_pure.specs.Rename.{renaming, renamed_lin, add_term, LinInRange, MergeFits};
 
 use crate::var::renamed;
 use crate::{NoMemory, Var};
@@ -61,7 +61,7 @@ impl Lin {
 
 // Adds `c` times `v` to the sum, in order.
 fn add_term(terms: &mut Vec<(Var, i128)>, v: Var, c: i128) -> Result<(), NoMemory>
-    requires { TermsInRange (add_term v c terms.old.items) }
+    requires { MergeFits v c terms.old.items }
     ensures { OnOk result (terms.new.items ≡ add_term v c terms.old.items) }
 {
     let mut i = 0;
