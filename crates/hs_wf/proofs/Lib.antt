@@ -1,0 +1,6 @@
+pub mod Members
+pub mod Following
+pub mod Linked
+pub mod Unmarked
+pub mod Firsts
+pub mod Depth
