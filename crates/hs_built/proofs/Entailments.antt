@@ -72,7 +72,7 @@ abbrev built_value : Resolved → Result Resolved NormError → Resolved
 built_value d (Ok r) = r
 built_value d (Err e) = d
 
-outcome_is : (o : Option Fault) (a r : Resolved) → outcome o a ≡ Ok r → a ≡ r
+pub outcome_is : (o : Option Fault) (a r : Resolved) → outcome o a ≡ Ok r → a ≡ r
 outcome_is None a r e = ap (built_value a) e
 outcome_is (Some f) a r e = absurd cc
 

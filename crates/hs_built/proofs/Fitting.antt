@@ -1,5 +1,5 @@
 -- The claims that entailments of built sources are, are well formed.
-use Rattle.std.proofs.Common.{◌≡◌, ℕ, zero, suc, ◌≤◌, Bool, true, false, ◌||◌, IsTrue, List, [], ◌∷◌, length, map, Option, Some, None, Result, Ok, Err, refl, sym, ap, ◌∙◌, subst, arith}
+use Rattle.std.proofs.Common.{◌≡◌, ℕ, zero, suc, ◌≤◌, Bool, true, false, ◌||◌, IsTrue, List, [], ◌∷◌, length, map, Option, Some, None, Ok, refl, sym, ap, ◌∙◌, subst, arith}
 use Rattle.std.specs.List.{All, AllByRecursion, list_all, list_any, filter_map, slice_get}
 use Rattle.std.specs.Option.{option_map}
 use Rattle.std.proofs.lemmas.Bool.{and_parts}
@@ -13,8 +13,7 @@ use Rattle.hs_pure.specs.Sums.{LinIsOrdered}
 use Rattle.hs_pure.proofs.Vars.{or_left, or_right}
 use Rattle.hs_pure.proofs.Views.{fold-Eq}
 use Rattle.hs_heap.specs.Meaning.{is_in, pred_at}
-use Rattle.hs_heap.specs.Sound.{IsNumbered, IsShort, kinds, argument_kinds, AtomFits as AtomIsFit, PureFits, DisjunctFits, FormulaFits}
-use Rattle.hs_heap.specs.Sound as sound
+use Rattle.hs_heap.specs.Sound.{IsNumbered, IsShort, node_at, kinds, argument_kinds, AtomFits as AtomIsFit, PureFits, DisjunctFits, FormulaFits}
 use Rattle.hs_heap.specs.Variables.{in_atom, is_free_in_formula}
 use Rattle.hs_heap.specs.declared.definitions.NodeDef.{NodeDef}
 use Rattle.hs_heap.specs.declared.definitions.PredDef.{PredDef}
@@ -31,17 +30,14 @@ use Rattle.hs_points.specs.declared.claim.Equation.{Equation}
 use Rattle.hs_points.specs.declared.claim.Side.{Side}
 use Rattle.hs_points.specs.declared.claim.Claim.{Claim}
 use Rattle.hs_points.specs.Formulas.{lin_of, pure_of, disjunct_of, formula_of}
-use Rattle.hs_points.specs.Fits.{in_term, in_equations, in_atoms, in_side, node_at, VarFits, OfFits, AtomFits, TermFits, EquationFits, SideFits, RiseFrom, ClaimFits}
+use Rattle.hs_points.specs.Fits.{in_term, in_equations, in_atoms, in_side, VarFits, OfFits, AtomFits, TermFits, EquationFits, SideFits, RiseFrom, ClaimFits}
 use Rattle.hs_tree.specs.declared.source.Source.{Source}
 use Rattle.hs_tree.specs.declared.source.SourceItem.{SourceItem}
 use Rattle.hs_tree.specs.declared.source.SourceItem.TheVariants as item
-use Rattle.hs_numbering.specs.declared.fault.Fault.{Fault}
 use Rattle.hs_numbering.specs.declared.numbering.Numbering.{Numbering}
 use Rattle.hs_numbering.specs.declared.numbering.Reading.TheVariants.{Closed}
 use Rattle.hs_numbering.specs.Numbering.{start, each_counted}
 use Rattle.hs_numbering.specs.Least.{least}
-use Rattle.hs_norm_formula.specs.declared.by_number.NormError.{NormError}
-use Rattle.hs_norm_formula.specs.Numbered.{outcome}
 use Rattle.hs_norm.specs.declared.resolved.Entailment.{Entailment}
 use Rattle.hs_norm.specs.declared.resolved.Resolved.{Resolved}
 use Rattle.hs_norm.specs.Declaring.{data_of, pred_of, entries}
@@ -53,6 +49,7 @@ use Rattle.hs_norm_sound.specs.Laws.{GoalsAreWellFormed}
 use Rattle.hs_points_formulas.specs.Sides.{side_in, SidesAreFormulas}
 use Rattle.hs_built.specs.Built.{is_built, is_served, is_claim}
 use Rattle.hs_built.specs.Claims.{between, claim_in}
+use Rattle.hs_built.proofs.Entailments.{outcome_is}
 
 -- ---- predicates of a source that is built
 
@@ -64,14 +61,6 @@ preds_none (item.Entail c ∷ items) e = preds_none items (and_parts (is_claim c
 preds_none (item.Method m ∷ items) e = absurd cc
 preds_none (item.Lemma l ∷ items) e = absurd cc
 
-abbrev built_value : Resolved → Result Resolved NormError → Resolved
-built_value d (Ok r) = r
-built_value d (Err e) = d
-
-outcome_is : (o : Option Fault) (a r : Resolved) → outcome o a ≡ Ok r → a ≡ r
-outcome_is None a r e = ap (built_value a) e
-outcome_is (Some f) a r e = absurd cc
-
 module _ (items : List SourceItem) where
   abbrev after_nodes : Numbering
   after_nodes = (each_counted (node (entries items)) (filter_map data_of items) (blame_second items (start Closed [])).1).1
@@ -79,7 +68,7 @@ module _ (items : List SourceItem) where
   preds_empty : list_all is_served items ≡ true → (items_normal items (start Closed [])).0.defs.preds ≡ []
   preds_empty e = ap (λ ps. map (λ p. p.0) (each_counted (pred (entries items)) ps after_nodes).0) (preds_none items e)
 
-no_preds : (tree : Source) (r : Resolved) → is_built tree ≡ true → normal_of tree ≡ Ok r → r.defs.preds ≡ []
+pub no_preds : (tree : Source) (r : Resolved) → is_built tree ≡ true → normal_of tree ≡ Ok r → r.defs.preds ≡ []
 no_preds tree r b e =
     let built = outcome_is (least (items_normal tree.items (start Closed [])).1.faults) (items_normal tree.items (start Closed [])).0 r e in
     sym (ap (λ (x : Resolved). x.defs.preds) built) ∙ preds_empty tree.items b
@@ -116,10 +105,6 @@ abbrev listed : Option (List Bool) → List Bool
 listed None = []
 listed (Some bs) = bs
 
-same_node : (defs : Defs) (n : ℕ) → sound.node_at defs n ≡ node_at defs n
-same_node defs zero = refl
-same_node defs (suc n) = refl
-
 module _ {F : Type 0} where
   fields_many : (fs : List F) (vs : List Var) → map (λ f. false) fs ≡ kinds vs → length fs ≡ length vs
   fields_many fs vs e = sym (length-map fs (λ (f : F). false)) ∙ ap length e ∙ length-map vs (λ (v : Var). v.bag)
@@ -136,17 +121,17 @@ module _ (defs : Defs) (bare : defs.preds ≡ []) (next : ℕ) where
   abbrev Numbers : List Var → Type 0
   Numbers vs = (v : Var) → IsTrue (is_in v vs) → IsNumbered next v
 
-  node_fits : (n : ℕ) (args : List Var) (o : Option NodeDef) → sound.node_at defs n ≡ o → option_map (λ d. map (λ f. false) d.fields) o ≡ Some (kinds args) → Numbers args
+  node_fits : (n : ℕ) (args : List Var) (o : Option NodeDef) → node_at defs n ≡ o → option_map (λ d. map (λ f. false) d.fields) o ≡ Some (kinds args) → Numbers args
       → OfFits defs (length args) (Node n) × AllByRecursion (VarFits next) args
   node_fits n args None is e h = absurd cc
-  node_fits n args (Some d) is e h = ((d, sym (same_node defs n) ∙ is, fields_many d.fields args (ap listed e)), args_fit next d.fields args (ap listed e) h)
+  node_fits n args (Some d) is e h = ((d, is, fields_many d.fields args (ap listed e)), args_fit next d.fields args (ap listed e) h)
 
   pred_none : (n : ℕ) → pred_at defs n ≡ None
   pred_none zero = refl
   pred_none (suc n) = ap (λ (ps : List PredDef). slice_get ps n) bare
 
   of_fits : (o : Of) (args : List Var) → argument_kinds defs o ≡ Some (kinds args) → Numbers args → OfFits defs (length args) o × AllByRecursion (VarFits next) args
-  of_fits (Node n) args e h = node_fits n args (sound.node_at defs n) refl e h
+  of_fits (Node n) args e h = node_fits n args (node_at defs n) refl e h
   of_fits (Pred n) args e h =
       let none : None ≡ Some (kinds args) = ap (λ (o : Option PredDef). option_map (λ (p : PredDef). kinds p.params) o) (sym (pred_none n)) ∙ e in absurd cc
 

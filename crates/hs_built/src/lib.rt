@@ -1,9 +1,9 @@
 //! Which sources are served so far, and the claims that their entailments are.
 //!
 //! [`is_built`] tells whether a source has data types and entailments of points-to atoms and equations alone, and
-//! [`claim_of`] gives the claim that an entailment is. In a source that is built each entailment is a claim, which
-//! the contract of [`built_sources_have_claims`] states, and each claim is well formed, which that of
-//! [`claims_fit`] states.
+//! [`claim_of`] gives the claim that an entailment is. A source that is built has no predicates, each of its
+//! entailments is a claim, and each claim is well formed, which the contracts of
+//! [`built_sources_have_no_predicates`], [`built_sources_have_claims`] and [`claims_fit`] state.
 #![tactic(auto)]
 
 mod built;
@@ -12,4 +12,4 @@ mod laws;
 
 pub use built::is_built;
 pub use claims::claim_of;
-pub use laws::{built_sources_have_claims, claims_fit};
+pub use laws::{built_sources_have_claims, built_sources_have_no_predicates, claims_fit};

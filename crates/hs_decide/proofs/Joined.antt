@@ -8,7 +8,7 @@ use Rattle.hs_pure.proofs.Views.{fold-And, fold-Or}
 use Rattle.hs_pure.proofs.Mirrored.{fold-joined}
 use Rattle.hs_elimination.specs.Decided.{without_quantifiers}
 use Rattle.hs_elimination.proofs.Stage3.{contains_cases, contains_none}
-use Rattle.hs_cooper.proofs.Changes.{map-map, contains-map}
+use Rattle.hs_cooper_forms.proofs.Changes.{map-map, contains-map}
 use Rattle.hs_decide.specs.Size.{quantifier_size}
 use Rattle.hs_decide.specs.Span.{HasWideQuantifiers}
 use Rattle.hs_decide.proofs.Stages.{max_left, max_right}

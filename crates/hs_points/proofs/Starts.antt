@@ -1,5 +1,5 @@
 -- The goal that a claim asks is well formed.
-use Rattle.std.proofs.Common.{◌≡◌, ℕ, ◌≤◌, ◌^◌, refl, arith}
+use Rattle.std.proofs.Common.{ℕ, ◌≤◌, ◌^◌, refl, arith}
 use Rattle.hs_heap.specs.declared.definitions.Defs.{Defs}
 use Rattle.hs_points.specs.declared.claim.Claim.{Claim}
 use Rattle.hs_points.specs.Fits.{GoalFits, ClaimFits, start}

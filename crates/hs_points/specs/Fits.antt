@@ -1,9 +1,10 @@
 -- Which claims and goals are well formed.
-use Rattle.std.specs.Prelude.{◌≡◌, ℕ, zero, suc, ◌<◌, ◌≤◌, ◌||◌, ◌^◌, Bool, true, false, List, [], ◌∷◌, length, Option, None, Some, slice_get}
+use Rattle.std.specs.Prelude.{◌≡◌, ℕ, ◌<◌, ◌≤◌, ◌||◌, ◌^◌, Bool, true, false, List, [], ◌∷◌, length, Some}
 use Rattle.std.specs.List.{AllByRecursion}
 use Rattle.hs_pure.specs.declared.var.Var.{Var}
 use Rattle.hs_pure.specs.Stack.{same}
 use Rattle.hs_heap.specs.Meaning.{is_in}
+use Rattle.hs_heap.specs.Sound.{node_at}
 use Rattle.hs_heap.specs.declared.definitions.NodeDef.{NodeDef}
 use Rattle.hs_heap.specs.declared.definitions.Defs.{Defs}
 use Rattle.hs_heap.specs.declared.formula.Of.{Of}
@@ -34,11 +35,6 @@ abbrev pub in_side : Var → Side → Bool
 in_side v side = in_atoms v side.atoms || in_equations v side.equations
 
 -- ---- what fits
-
--- the data type of a number from 1
-abbrev pub node_at : Defs → ℕ → Option NodeDef
-node_at defs zero = None
-node_at defs (suc n) = slice_get defs.nodes n
 
 -- a number variable of a number from 1 below next
 pub record VarFits (next : ℕ) (v : Var) : Type 0 where

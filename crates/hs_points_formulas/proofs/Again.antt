@@ -1,5 +1,5 @@
 -- Sides and their formulas.
-use Rattle.std.proofs.Common.{◌≡◌, ℤ, pos, Bool, true, false, if◌then◌else◌, List, [], ◌∷◌, map, Option, Some, None, refl, sym, ap, subst, ◌∙◌}
+use Rattle.std.proofs.Common.{◌≡◌, ℤ, pos, Bool, true, false, if◌then◌else◌, List, [], ◌∷◌, map, Option, Some, None, refl, sym, ap, ◌∙◌}
 use Rattle.std.specs.Ordering.{int_eq}
 use Rattle.std.proofs.lemmas.Bool.Decides.{Decides-int_eq}
 use Rattle.hs_pure.specs.declared.var.Var.{Var}
@@ -16,7 +16,7 @@ use Rattle.hs_points.specs.declared.claim.Term.TheVariants.{Null, Name}
 use Rattle.hs_points.specs.declared.claim.Equation.{Equation}
 use Rattle.hs_points.specs.declared.claim.Side.{Side}
 use Rattle.hs_points.specs.Formulas.{lin_of, pure_of, disjunct_of, formula_of}
-use Rattle.hs_points_formulas.specs.Sides.{single, term_by, term_in, equated, equation_level, equation_in, put_first, equations_in, case_by, case_in, sides_by, side_in, SidesAreFormulas}
+use Rattle.hs_points_formulas.specs.Sides.{single, term_by, term_in, equated, equation_level, equation_in, put_first, equations_in, case_by, sides_by, side_in, SidesAreFormulas}
 
 some_is : {A : Type 0} (x y : A) → Some x ≡ Some y → x ≡ y
 some_is {A} x y e = ap given e

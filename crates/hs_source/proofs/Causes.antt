@@ -19,29 +19,28 @@ use Rattle.hs_norm_formula.specs.declared.by_number.NormError.TheVariants as nor
 use Rattle.hs_norm_formula.specs.Numbered.{Gives}
 use Rattle.hs_norm.specs.declared.resolved.Resolved.{Resolved}
 use Rattle.hs_norm.specs.Normal.{normal_of}
-use Rattle.hs_source.specs.declared.TheConstants.{LITERAL_LIMIT}
 use Rattle.hs_source.specs.declared.error.SourceError.{SourceError}
 use Rattle.hs_source.specs.declared.error.SourceError.TheVariants.{Refused, Memory}
 use Rattle.hs_source.specs.Refusals.{of_lexer, of_reader, of_normal_form}
-use Rattle.hs_source.specs.Resolved.{IsRefused, no_tokens, no_tree, no_normal_form, HasCause, HasTreeCause}
+use Rattle.hs_source.specs.Resolved.{literal_limit, no_tokens, no_tree, no_normal_form, HasCause, HasTreeCause}
 
-lexer_cause_of : (text : List ℕ) (e : LexError) → HasLexCause LITERAL_LIMIT text e → HasCause text (of_lexer e)
+lexer_cause_of : (text : List ℕ) (e : LexError) → HasLexCause literal_limit text e → HasCause text (of_lexer e)
 lexer_cause_of text (lexer.NotUtf8 at) cause = no_tokens (lexer.NotUtf8 at) cause refl
 lexer_cause_of text (lexer.BadByte at) cause = no_tokens (lexer.BadByte at) cause refl
 lexer_cause_of text (lexer.LiteralWide at) cause = no_tokens (lexer.LiteralWide at) cause refl
 lexer_cause_of text (lexer.NameLong at) cause = no_tokens (lexer.NameLong at) cause refl
 lexer_cause_of text lexer.Memory cause = tt
 
-pub lexer_cause : (text : List ℕ) (e : LexError) (s : SourceError) → HasLexCause LITERAL_LIMIT text e → s ≡ of_lexer e → HasCause text s
+pub lexer_cause : (text : List ℕ) (e : LexError) (s : SourceError) → HasLexCause literal_limit text e → s ≡ of_lexer e → HasCause text s
 lexer_cause text e s cause is = subst (HasCause text) (sym is) (lexer_cause_of text e cause)
 
-reader_cause_of : (text : List ℕ) (tokens : List Token) (e : ReadError) → HasTokens LITERAL_LIMIT text tokens → FailsBy (whole (source 64) text tokens) e → HasCause text (of_reader e)
+reader_cause_of : (text : List ℕ) (tokens : List Token) (e : ReadError) → HasTokens literal_limit text tokens → FailsBy (whole (source 64) text tokens) e → HasCause text (of_reader e)
 reader_cause_of text tokens (reader.Expected at what.Token) has is = no_tree tokens (reader.Expected at what.Token) has is refl
 reader_cause_of text tokens (reader.Expected at what.End) has is = no_tree tokens (reader.Expected at what.End) has is refl
 reader_cause_of text tokens (reader.TooDeep at) has is = no_tree tokens (reader.TooDeep at) has is refl
 reader_cause_of text tokens reader.Memory has is = tt
 
-pub reader_cause : (text : List ℕ) (tokens : List Token) (e : ReadError) (s : SourceError) → HasTokens LITERAL_LIMIT text tokens
+pub reader_cause : (text : List ℕ) (tokens : List Token) (e : ReadError) (s : SourceError) → HasTokens literal_limit text tokens
     → FailsBy (whole (source 64) text tokens) e → s ≡ of_reader e → HasCause text s
 reader_cause text tokens e s has fails is = subst (HasCause text) (sym is) (reader_cause_of text tokens e has fails)
 
@@ -72,7 +71,7 @@ pub normal_cause : (tree : Source) (e : NormError) (s : SourceError) → Gives (
 normal_cause tree e s gives is = subst (HasTreeCause tree) (sym is) (normal_cause_by tree e gives)
 
 -- a text whose tree has no normal form is refused
-pub tree_cause : (text : List ℕ) (tokens : List Token) (tree : Source) (s : SourceError) → HasTokens LITERAL_LIMIT text tokens
+pub tree_cause : (text : List ℕ) (tokens : List Token) (tree : Source) (s : SourceError) → HasTokens literal_limit text tokens
     → Spells (IsSource 64) text tokens tree → HasTreeCause tree s → HasCause text s
 tree_cause text tokens tree (Refused r) has spelled cause = no_normal_form tokens tree cause.0 has spelled cause.1 cause.2
 tree_cause text tokens tree Memory has spelled cause = tt

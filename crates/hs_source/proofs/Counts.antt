@@ -1,5 +1,5 @@
 -- A text has at least as many bytes as tokens, and its tokens spell at most as many items.
-use Rattle.std.proofs.Common.{◌≡◌, ℕ, zero, suc, ◌+◌, ◌<◌, ◌≤◌, ◌^◌, Bool, true, false, if◌then◌else◌, List, [], ◌∷◌, ◌++◌, length, length-append, Option, Some, None, Result, Ok, Err, refl, sym, ap, subst, arith}
+use Rattle.std.proofs.Common.{◌≡◌, ℕ, zero, suc, ◌+◌, ◌<◌, ◌≤◌, Bool, true, false, if◌then◌else◌, List, [], ◌∷◌, ◌++◌, length, length-append, Option, Some, None, Result, Ok, Err, refl, sym, ap, subst, arith}
 use Rattle.hs_lex.specs.declared.token.Token.{Token}
 use Rattle.hs_lex.specs.declared.token.TokenKind.{TokenKind}
 use Rattle.hs_lex.specs.declared.token.TokenKind.TheVariants as kinds
@@ -7,7 +7,7 @@ use Rattle.hs_lex.specs.declared.token.Sign.{Sign}
 use Rattle.hs_lex.specs.declared.token.Sign.TheVariants.{ColonColon, Turnstile, EqEq, NotEq, LessEq, GreaterEq, AndAnd, OrOr, Arrow, OpenBrace, CloseBrace, OpenParen, CloseParen, Less, Greater, Comma, Semicolon, Dot, Colon, Equals, Plus, Minus, Star, Amp, Bar, Bang}
 use Rattle.hs_lex.specs.Tokens.{Lexes, ended, gap, token, Spells, spelling, BeginsWith, is_letter, is_digit, HasTokens}
 use Rattle.hs_words.specs.declared.error.ReadError.{ReadError}
-use Rattle.hs_words.specs.Input.{Input, Outcome, Parser, ◌>>=◌, and_then, pure, ask, repeat, comes, input, whole, whole_of, only, turns}
+use Rattle.hs_words.specs.Input.{Input, Outcome, Parser, ◌>>=◌, and_then, pure, repeat, comes, input, whole, whole_of, only}
 use Rattle.hs_words.specs.Input as words
 use Rattle.hs_tree.specs.declared.source.Source.{Source}
 use Rattle.hs_tree.specs.declared.source.SourceItem.{SourceItem}
@@ -26,7 +26,7 @@ use Rattle.hs_norm.specs.Declaring.{data_of, pred_of, entail_of, entries}
 use Rattle.hs_norm.specs.Definitions.{node, pred}
 use Rattle.hs_norm.specs.Claims.{entailment}
 use Rattle.hs_norm.specs.Normal.{blame_second, items_normal, normal_of}
-use Rattle.hs_source.specs.declared.TheConstants.{LITERAL_LIMIT}
+use Rattle.hs_source.specs.Resolved.{literal_limit}
 
 -- ---- tokens
 
@@ -121,9 +121,9 @@ items_few text tokens tree e = by_items (repeat (comes begins_item) (source_item
         let few = repeat_few (comes begins_item) (source_item 64) (length tokens) [] (input text tokens) q is in
         let same = by_end q.0 (words.ended q.1) e in omega (arith, ap length same)
 
-pub few_items : (text : List ℕ) (tokens : List Token) (tree : Source) → HasTokens LITERAL_LIMIT text tokens
+pub few_items : (text : List ℕ) (tokens : List Token) (tree : Source) → HasTokens literal_limit text tokens
     → whole (source 64) text tokens ≡ Ok tree → length tree.items ≤ length text
-few_items text tokens tree has is = let a = tokens_few LITERAL_LIMIT text tokens has in let b = items_few text tokens tree is in omega arith
+few_items text tokens tree has is = let a = tokens_few literal_limit text tokens has in let b = items_few text tokens tree is in omega arith
 
 -- ---- entailments
 

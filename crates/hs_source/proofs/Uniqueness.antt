@@ -1,5 +1,5 @@
 -- A text has one answer.
-use Rattle.std.proofs.Common.{◌≡◌, ◌≢◌, ℕ, List, Result, Ok, Err, refl, sym, ap, subst, ◌∙◌}
+use Rattle.std.proofs.Common.{◌≡◌, ◌≢◌, ℕ, List, Result, Ok, Err, sym, ap, subst, ◌∙◌}
 use Rattle.hs_lex.specs.declared.error.LexError.{LexError}
 use Rattle.hs_lex.specs.declared.error.LexError.TheVariants as lexer
 use Rattle.hs_lex.specs.declared.token.Token.{Token}
@@ -12,15 +12,13 @@ use Rattle.hs_tree.specs.declared.source.Source.{Source}
 use Rattle.hs_read.specs.Declare.{source}
 use Rattle.hs_read.specs.Grammar.{IsSource}
 use Rattle.hs_read.specs.Laws.{SourcesAreRead, SourcesAreUnique}
-use Rattle.hs_norm_formula.specs.declared.by_number.NormError.{NormError}
 use Rattle.hs_norm.specs.declared.resolved.Resolved.{Resolved}
 use Rattle.hs_norm.specs.Normal.{normal_of}
 use Rattle.hs_print.specs.declared.refusal.Refusal.{Refusal}
-use Rattle.hs_source.specs.declared.TheConstants.{LITERAL_LIMIT}
 use Rattle.hs_source.specs.declared.error.SourceError.{SourceError}
 use Rattle.hs_source.specs.declared.error.SourceError.TheVariants.{Refused, Memory}
 use Rattle.hs_source.specs.Refusals.{of_lexer, of_reader, of_normal_form}
-use Rattle.hs_source.specs.Resolved.{IsResolved, IsRefused, no_tokens, no_tree, no_normal_form, TextsHaveOneAnswer}
+use Rattle.hs_source.specs.Resolved.{literal_limit, IsResolved, IsRefused, no_tokens, no_tree, no_normal_form, TextsHaveOneAnswer}
 
 abbrev refusal_of : Refusal → SourceError → Refusal
 refusal_of d (Refused r) = r
@@ -58,14 +56,14 @@ not_both : {A E : Type 0} (a : A) (e : E) (x : Result A E) → x ≡ Ok a → x 
 not_both a e x h k = subst is_ok (sym h ∙ k) tt
 
 module _ (unique : TokensAreUnique) (exclude : TokensExcludeFaults) (faults : FaultsAreUnique) (are_read : SourcesAreRead) (spell_one : SourcesAreUnique) where
-  same_tokens : (text : List ℕ) (ts us : List Token) → HasTokens LITERAL_LIMIT text ts → HasTokens LITERAL_LIMIT text us → ts ≡ us
-  same_tokens text ts us h k = unique LITERAL_LIMIT text ts us h k
+  same_tokens : (text : List ℕ) (ts us : List Token) → HasTokens literal_limit text ts → HasTokens literal_limit text us → ts ≡ us
+  same_tokens text ts us h k = unique literal_limit text ts us h k
 
-  moved : (text : List ℕ) (ts us : List Token) (u : Source) → HasTokens LITERAL_LIMIT text ts → HasTokens LITERAL_LIMIT text us
+  moved : (text : List ℕ) (ts us : List Token) (u : Source) → HasTokens literal_limit text ts → HasTokens literal_limit text us
       → Spells (IsSource 64) text us u → Spells (IsSource 64) text ts u
   moved text ts us u h k r = subst (λ (vs : List Token). Spells (IsSource 64) text vs u) (sym (same_tokens text ts us h k)) r
 
-  same_trees : (text : List ℕ) (ts us : List Token) (t u : Source) → HasTokens LITERAL_LIMIT text ts → HasTokens LITERAL_LIMIT text us
+  same_trees : (text : List ℕ) (ts us : List Token) (t u : Source) → HasTokens literal_limit text ts → HasTokens literal_limit text us
       → Spells (IsSource 64) text ts t → Spells (IsSource 64) text us u → t ≡ u
   same_trees text ts us t u h k s r = spell_one 64 text ts t u s (moved text ts us u h k r)
 
@@ -76,12 +74,12 @@ module _ (unique : TokensAreUnique) (exclude : TokensExcludeFaults) (faults : Fa
   normal_forms text t u a b h k = ok_is a b (normal_of t) h.normal (ap normal_of (trees text t u a b h k) ∙ k.normal)
 
   -- a fault of the lexer stands beside no tokens
-  lexer_apart : (text : List ℕ) (ts : List Token) (e : LexError) (r : Refusal) → HasTokens LITERAL_LIMIT text ts
-      → HasLexCause LITERAL_LIMIT text e → of_lexer e ≡ Refused r → ⊥
-  lexer_apart text ts e r h cause is = exclude LITERAL_LIMIT text ts e (named r e is) h cause
+  lexer_apart : (text : List ℕ) (ts : List Token) (e : LexError) (r : Refusal) → HasTokens literal_limit text ts
+      → HasLexCause literal_limit text e → of_lexer e ≡ Refused r → ⊥
+  lexer_apart text ts e r h cause is = exclude literal_limit text ts e (named r e is) h cause
 
   -- tokens that spell a tree are read
-  reader_apart : (text : List ℕ) (ts us : List Token) (t : Source) (e : ReadError) → HasTokens LITERAL_LIMIT text ts → HasTokens LITERAL_LIMIT text us
+  reader_apart : (text : List ℕ) (ts us : List Token) (t : Source) (e : ReadError) → HasTokens literal_limit text ts → HasTokens literal_limit text us
       → whole (source 64) text ts ≡ Err e → Spells (IsSource 64) text us t → ⊥
   reader_apart text ts us t e h k is s = not_both t e (whole (source 64) text ts) (are_read 64 text ts t (moved text ts us t h k s)) is
 
@@ -93,7 +91,7 @@ module _ (unique : TokensAreUnique) (exclude : TokensExcludeFaults) (faults : Fa
 
   refusals : (text : List ℕ) (r s : Refusal) → IsRefused text r → IsRefused text s → r ≡ s
   refusals text r s (no_tokens e cause is) (no_tokens d reason are) =
-      same_refusal r s (of_lexer e) (of_lexer d) (ap of_lexer (faults LITERAL_LIMIT text e d (named r e is) (named s d are) cause reason)) is are
+      same_refusal r s (of_lexer e) (of_lexer d) (ap of_lexer (faults literal_limit text e d (named r e is) (named s d are) cause reason)) is are
   refusals text r s (no_tokens e cause is) (no_tree ts d lexed read are) = absurd (lexer_apart text ts e r lexed cause is)
   refusals text r s (no_tokens e cause is) (no_normal_form ts u d lexed spelled none are) = absurd (lexer_apart text ts e r lexed cause is)
   refusals text r s (no_tree ts d lexed read are) (no_tokens e cause is) = absurd (lexer_apart text ts e s lexed cause is)

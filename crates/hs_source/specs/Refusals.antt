@@ -6,7 +6,6 @@ use Rattle.hs_words.specs.declared.error.ReadError.TheVariants as reader
 use Rattle.hs_words.specs.declared.error.What.TheVariants as what
 use Rattle.hs_norm_formula.specs.declared.by_number.NormError.{NormError}
 use Rattle.hs_norm_formula.specs.declared.by_number.NormError.TheVariants as normal
-use Rattle.hs_print.specs.declared.refusal.Refusal.{Refusal}
 use Rattle.hs_print.specs.declared.refusal.Refusal.TheVariants as refusal
 use Rattle.hs_source.specs.declared.error.SourceError.{SourceError}
 use Rattle.hs_source.specs.declared.error.SourceError.TheVariants.{Refused, Memory}

@@ -1,5 +1,5 @@
 -- What the source of a text is, and why a text has none.
-use Rattle.std.specs.Prelude.{◌≡◌, ◌≢◌, ℕ, List, Ok, Err}
+use Rattle.std.specs.Prelude.{◌≡◌, ℕ, ◌-◌, ◌^◌, List, Ok, Err}
 use Rattle.hs_lex.specs.Tokens.{HasTokens, HasLexCause}
 use Rattle.hs_lex.specs.declared.error.LexError.{LexError}
 use Rattle.hs_lex.specs.declared.token.Token.{Token}
@@ -15,22 +15,25 @@ use Rattle.hs_norm.specs.Normal.{normal_of}
 use Rattle.hs_print.specs.declared.refusal.Refusal.{Refusal}
 use Rattle.hs_source.specs.declared.error.SourceError.{SourceError}
 use Rattle.hs_source.specs.declared.error.SourceError.TheVariants.{Refused, Memory}
-use Rattle.hs_source.specs.declared.TheConstants.{LITERAL_LIMIT}
 use Rattle.hs_source.specs.Refusals.{of_lexer, of_reader, of_normal_form}
+
+-- the greatest number that a source may write
+abbrev pub literal_limit : ℕ
+literal_limit = 2 ^ 63 - 1
 
 -- the tokens of the text spell a tree, and its normal form is this
 pub record IsResolved (text : List ℕ) (tree : Source) (resolved : Resolved) : Type 0 where
   pub tokens : List Token
-  pub lexed : HasTokens LITERAL_LIMIT text tokens
+  pub lexed : HasTokens literal_limit text tokens
   pub spelled : Spells (IsSource 64) text tokens tree
   pub normal : normal_of tree ≡ Ok resolved
 
 -- the text has no tokens, or they spell no tree, or the tree has no normal form, for this reason
 pub data IsRefused (text : List ℕ) : Refusal → Type 0 where
-  no_tokens : {r : Refusal} (e : LexError) → HasLexCause LITERAL_LIMIT text e → of_lexer e ≡ Refused r → IsRefused text r
-  no_tree : {r : Refusal} (tokens : List Token) (e : ReadError) → HasTokens LITERAL_LIMIT text tokens
+  no_tokens : {r : Refusal} (e : LexError) → HasLexCause literal_limit text e → of_lexer e ≡ Refused r → IsRefused text r
+  no_tree : {r : Refusal} (tokens : List Token) (e : ReadError) → HasTokens literal_limit text tokens
       → whole (source 64) text tokens ≡ Err e → of_reader e ≡ Refused r → IsRefused text r
-  no_normal_form : {r : Refusal} (tokens : List Token) (tree : Source) (e : NormError) → HasTokens LITERAL_LIMIT text tokens
+  no_normal_form : {r : Refusal} (tokens : List Token) (tree : Source) (e : NormError) → HasTokens literal_limit text tokens
       → Spells (IsSource 64) text tokens tree → normal_of tree ≡ Err e → of_normal_form e ≡ Refused r → IsRefused text r
 
 -- an error has its cause; want of memory needs none

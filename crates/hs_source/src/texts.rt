@@ -6,7 +6,7 @@ ghost use Rattle.hs_lex.specs.Tokens.{HasTokens, IsSpan};
 ghost use Rattle.hs_words.specs.Grammar.{Spells};
 ghost use Rattle.hs_read.specs.Grammar.{IsSource};
 ghost use Rattle.hs_norm.specs.Normal.{normal_of};
-ghost use Rattle.hs_source.specs.Resolved.{IsResolved, HasCause, HasTreeCause};
+ghost use Rattle.hs_source.specs.Resolved.{literal_limit, IsResolved, HasCause, HasTreeCause};
 
 use crate::LITERAL_LIMIT;
 use crate::error::{SourceError, of_lexer, of_normal_form, of_reader};
@@ -19,7 +19,7 @@ use std::str;
 // The tokens of a text.
 fn tokens(alloc: Global, bytes: &[u8]) -> Result<Vec<Token>, SourceError>
     requires { length bytes.now < 2 ^ 32 }
-    ensures found { IfOk result (λ tokens. HasTokens LITERAL_LIMIT bytes.now tokens.items) }
+    ensures found { IfOk result (λ tokens. HasTokens literal_limit bytes.now tokens.items) }
     ensures spans { IfOk result (λ tokens. AllByRecursion (IsSpan bytes.now) tokens.items) }
     ensures cause { IfErr result (HasCause bytes.now) }
 {
@@ -32,7 +32,7 @@ fn tokens(alloc: Global, bytes: &[u8]) -> Result<Vec<Token>, SourceError>
 // The tree that the tokens of a text spell, which has at most one item a token.
 fn tree(alloc: Global, text: &str, tokens: &[Token]) -> Result<Source, SourceError>
     requires len { length text.now < 2 ^ 32 }
-    requires tokens { HasTokens LITERAL_LIMIT text.now tokens.now }
+    requires tokens { HasTokens literal_limit text.now tokens.now }
     requires spans { AllByRecursion (IsSpan text.now) tokens.now }
     ensures found { IfOk result (Spells (IsSource 64) text.now tokens.now) }
     ensures few { IfOk result (λ tree. length tree.items ≤ length text.now) }

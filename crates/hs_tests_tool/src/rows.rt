@@ -168,10 +168,16 @@ const NOT_BUILT: [&str; 12] = [
 ];
 
 // Files that are refused, without the shared data type.
-const FILES: [Row; 5] = [
+const FILES: [Row; 6] = [
     ("entail emp |- ;", 2, "refused: byte 14: unexpected token\n"),
     ("entail emp |-", 2, "refused: byte 13: unexpected end\n"),
     ("entail x::foo<> |- emp;", 2, "refused: unknown name foo\n"),
+    // The greatest literal is no fault, but numbers are not served.
+    (
+        "entail x = 9223372036854775807 |- emp;",
+        2,
+        "refused: not built\n",
+    ),
     (
         "entail x = 9223372036854775808 |- emp;",
         2,

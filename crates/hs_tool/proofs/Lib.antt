@@ -1,4 +1,6 @@
 mod Claims
 mod Reasons
+mod Ending
+mod Replies
 mod Verdicts
 mod Writing

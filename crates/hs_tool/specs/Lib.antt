@@ -1,4 +1,6 @@
 pub mod Status
 pub mod Output
+pub mod Reply
 pub mod Sleek
 pub mod Run
+pub mod Laws

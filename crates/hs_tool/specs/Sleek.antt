@@ -1,7 +1,8 @@
--- The report on a source: a true verdict for each entailment and a summary, or the refusal of the source.
+-- The reply to a file of entailments: a true verdict for each entailment and a summary, or the refusal of the source.
 use Rattle.std.specs.Prelude.{◌≡◌, ℕ, ◌+◌, List, [], ◌∷◌, ◌++◌, length, count_by, Bool, true, false, Option, Some}
 use Rattle.hs_heap.specs.Entailment.{Entails}
 use Rattle.hs_heap.specs.declared.definitions.Defs.{Defs}
+use Rattle.hs_heap.specs.declared.definitions.PredDef.{PredDef}
 use Rattle.hs_numbering.specs.declared.names.Names.{Names}
 use Rattle.hs_tree.specs.declared.source.Source.{Source}
 use Rattle.hs_norm.specs.declared.resolved.Entailment.{Entailment}
@@ -25,10 +26,10 @@ use Rattle.hs_print.specs.declared.line.Line.TheVariants as line
 use Rattle.hs_print.specs.declared.why.Why.{Why}
 use Rattle.hs_print.specs.declared.why.Why.TheVariants as why
 use Rattle.hs_print.specs.declared.refusal.Refusal.{Refusal}
-use Rattle.hs_print.specs.declared.refusal.Refusal.TheVariants.{NotBuilt}
-use Rattle.hs_source.specs.Resolved.{IsResolved, IsRefused}
 use Rattle.hs_built.specs.Built.{is_built}
 use Rattle.hs_built.specs.Claims.{claim_in}
+use Rattle.hs_tool.specs.declared.reply.Reply.{Reply}
+use Rattle.hs_tool.specs.Reply.{IsFormReply}
 
 -- the entailment is a claim of points-to atoms, which is well formed
 pub record HasFittingClaim (defs : Defs) (e : Entailment) : Type 0 where
@@ -82,23 +83,34 @@ is_valid _ = false
 
 -- ---- the report
 
--- the lines on a source that is served
-pub record IsSleekReport (resolved : Resolved) (report : List Line) : Type 0 where
-  pub verdicts : List Line
-  pub each : AreVerdicts resolved.defs 1 resolved.entailments verdicts
-  pub lines : report ≡ verdicts ++ line.SleekSummary 0 0 (count_by is_valid verdicts) (length verdicts) ∷ []
+abbrev pub is_shown : Line → Bool
+is_shown (line.Shown pred) = true
+is_shown _ = false
 
--- the lines on a source that has a normal form, by whether its form is served
-pub data IsTreeReport (tree : Source) (resolved : Resolved) : List Line → Type 0 where
-  served : {report : List Line} → is_built tree ≡ true → IsSleekReport resolved report → IsTreeReport tree resolved report
-  not_built : {report : List Line} → is_built tree ≡ false → report ≡ line.Refused NotBuilt ∷ [] → IsTreeReport tree resolved report
+-- a verdict on each predicate, in order, where this tells the verdicts on the predicate of a number
+abbrev pub ArePredicates : (ℕ → Line → Type 0) → ℕ → List PredDef → List Line → Type 0
+ArePredicates IsShown number [] [] = Unit {0}
+ArePredicates IsShown number (p ∷ ps) (l ∷ lines) = IsShown number l × ArePredicates IsShown (number + 1) ps lines
+ArePredicates IsShown number [] (l ∷ lines) = ⊥
+ArePredicates IsShown number (p ∷ ps) [] = ⊥
 
--- the lines on the bytes of a file: they are refused for the first fault, or they are a source that has a normal form
-pub data IsSourceReport (bytes : List ℕ) : List Line → Type 0 where
-  refused : {report : List Line} (cause : Refusal) → IsRefused bytes cause → report ≡ line.Refused cause ∷ [] → IsSourceReport bytes report
-  resolved : {report : List Line} (tree : Source) (r : Resolved) → IsResolved bytes tree r → IsTreeReport tree r report → IsSourceReport bytes report
+-- a verdict on each predicate, one on each entailment, and a summary that counts them
+pub record IsSleekReport (IsShown : Resolved → ℕ → Line → Type 0) (r : Resolved) (report : List Line) : Type 0 where
+  pub preds : List Line
+  pub shown : ArePredicates (IsShown r) 1 r.defs.preds preds
+  pub entailments : List Line
+  pub each : AreVerdicts r.defs 1 r.entailments entailments
+  pub lines : report ≡ preds ++ (entailments
+      ++ line.SleekSummary (count_by is_shown preds) (length preds) (count_by is_valid entailments) (length entailments) ∷ [])
 
--- the bytes have a fault, or are a source that is not served
-pub data IsRefusable (bytes : List ℕ) : Type 0 where
-  has_fault : (cause : Refusal) → IsRefused bytes cause → IsRefusable bytes
-  not_served : (tree : Source) (r : Resolved) → IsResolved bytes tree r → is_built tree ≡ false → IsRefusable bytes
+-- no stage after the normal form refuses a source yet
+abbrev pub HasNoFault : Resolved → Refusal → Type 0
+HasNoFault r cause = ⊥
+
+-- no predicate has a verdict yet, so that no source with a predicate is served
+abbrev pub HasNoVerdict : Resolved → ℕ → Line → Type 0
+HasNoVerdict r number l = ⊥
+
+-- the reply to a source with a normal form
+abbrev pub IsSleekReply : Source → Resolved → Reply → Type 0
+IsSleekReply = IsFormReply HasNoFault is_built (IsSleekReport HasNoVerdict)

@@ -36,7 +36,8 @@ fn open_root(alloc: Global, names: &Names, root: Var) -> Result<Why, NoMemory>
 fn question_text(alloc: Global, names: &Names, question: &Question) -> Result<Text, NoMemory>
     ensures { IfOk result (λ text. text ≡ pure_text (Some names.now) (questions.question_formula question.now)) }
 {
-    let right = question_formula(alloc, question)?;
+    // On the heap, so that it is dropped by one call and not case by case.
+    let right = Box::new(alloc, question_formula(alloc, question)?)?;
     Ok(Text::new(pure(alloc, &right, names)?))
 }
 

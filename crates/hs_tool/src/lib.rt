@@ -7,7 +7,9 @@
 #![tactic(auto)]
 
 mod causes;
+mod laws;
 mod output;
+mod reply;
 mod sleek;
 mod statuses;
 mod tool;
@@ -15,7 +17,9 @@ mod tool;
 /// The most bytes that a source may have.
 pub const SOURCE_LIMIT: u64 = 1 << 20;
 
-pub use hs_cli::{Job, Options};
+pub use hs_cli::{Job, Options, WordsError};
 pub use hs_print::{Line, Refusal, Tried, Why, Word};
+pub use laws::statuses_have_causes;
+pub use reply::Reply;
 pub use statuses::status;
 pub use tool::run_tool;

@@ -1,6 +1,6 @@
-//! The report on the entailments of a source.
+//! The reply to a file of entailments.
 
-ghost use Rattle.std.specs.Prelude.{◌≡◌, ◌≤◌, ◌^◌, [], ◌∷◌, length, count_by, IfOk, Ok, Some};
+ghost use Rattle.std.specs.Prelude.{◌≡◌, ◌≤◌, ◌^◌, [], ◌∷◌, length, count_by, IfOk, Ok, Some, true};
 ghost use Rattle.std.specs.List.{All};
 ghost use Rattle.hs_norm.specs.Normal.{normal_of};
 ghost use Rattle.hs_points.specs.Fits.{ClaimFits};
@@ -8,10 +8,16 @@ ghost use Rattle.hs_points.specs.Formulas.{residue_of};
 ghost use Rattle.hs_print.specs.Formula.{formula_text};
 ghost use Rattle.hs_print.specs.declared.line.Line.TheVariants as line;
 ghost use Rattle.hs_built.specs.Claims.{claim_in};
-ghost use Rattle.hs_tool.specs.Sleek.{is_valid, HasFittingClaim, IsVerdict, AreVerdicts, IsSleekReport, IsTreeReport, IsSourceReport};
+ghost use Rattle.hs_built.specs.Built.{is_built};
+ghost use Rattle.hs_tool.specs.Reply.{IsSourceReply};
+ghost use Rattle.hs_tool.specs.Run.{source_limit};
+ghost use Rattle.hs_tool.specs.Sleek.{is_valid, HasFittingClaim, HasNoVerdict, IsVerdict, AreVerdicts, IsSleekReport, IsSleekReply};
 
 use crate::causes::why;
-use hs_built::{built_sources_have_claims, claim_of, claims_fit, is_built};
+use crate::reply::Reply;
+use hs_built::{
+    built_sources_have_claims, built_sources_have_no_predicates, claim_of, claims_fit, is_built,
+};
 use hs_heap::Defs;
 use hs_norm::{Entailment, Names, Resolved};
 use hs_points::{Claim, Outcome, Side, claims_entail};
@@ -23,14 +29,7 @@ use hs_read::Source;
 use hs_source::{SourceError, resolve};
 use hs_text::Text;
 use sqlite_items::Items;
-use std::alloc::{AllocError, Global};
-
-/// A report of one line.
-pub fn alone(alloc: Global, line: Line) -> Result<Vec<Line>, AllocError>
-    ensures { IfOk result (λ report. report.items ≡ line ∷ []) }
-{
-    Ok(vec![in alloc; line]?)
-}
+use std::alloc::Global;
 
 // The printed residues, of which there is one.
 fn residues(
@@ -117,40 +116,53 @@ fn summary(verdicts: &[Line]) -> Line
     Line::SleekSummary(0, 0, valid as u32, verdicts.len() as u32)
 }
 
-// A verdict for each entailment, and a summary.
-fn sleek(alloc: Global, resolved: &Resolved) -> Result<Vec<Line>, NoMemory>
+// The lines on a source without predicates: a verdict for each entailment, and a summary.
+fn sleek(alloc: Global, resolved: &Resolved) -> Result<Items<Line>, NoMemory>
+    requires preds { resolved.now.defs.preds ≡ [] }
     requires claims { All (HasFittingClaim resolved.now.defs) resolved.now.entailments }
     requires few { length resolved.now.entailments ≤ 2 ^ 20 }
-    ensures { IfOk result (λ lines. IsSleekReport resolved.now lines.items) }
+    ensures { IfOk result (IsSleekReport HasNoVerdict resolved.now) }
 {
     let mut lines = verdicts(alloc, &resolved.defs, resolved.entailments.as_slice())?;
     let summary = summary(&lines);
     lines.push(summary)?;
-    Ok(lines)
+    Ok(Items::from_vec(lines))
 }
 
-// The report on a source with its normal form.
-fn tree_report(alloc: Global, tree: &Source, resolved: &Resolved) -> Result<Vec<Line>, NoMemory>
+// The lines on a source that is served.
+fn served(alloc: Global, tree: &Source, resolved: &Resolved) -> Result<Items<Line>, NoMemory>
+    requires served { is_built tree.now ≡ true }
     requires normal { normal_of tree.now ≡ Ok resolved.now }
     requires few { length resolved.now.entailments ≤ 2 ^ 20 }
-    ensures { IfOk result (λ lines. IsTreeReport tree.now resolved.now lines.items) }
+    ensures { IfOk result (IsSleekReport HasNoVerdict resolved.now) }
 {
+    built_sources_have_no_predicates();
     built_sources_have_claims();
     claims_fit();
-    if !is_built(tree) {
-        return Ok(alone(alloc, Line::Refused(Refusal::NotBuilt))?);
-    }
+    let _ = tree;
     sleek(alloc, resolved)
 }
 
-/// The report on a source of at most 2^20 bytes.
-pub fn report(alloc: Global, bytes: &[u8]) -> Result<Vec<Line>, NoMemory>
-    requires { length bytes.now ≤ 2 ^ 20 }
-    ensures { IfOk result (λ lines. IsSourceReport bytes.now lines.items) }
+// The reply to a source with its normal form.
+fn form_reply(alloc: Global, tree: &Source, resolved: &Resolved) -> Result<Reply, NoMemory>
+    requires normal { normal_of tree.now ≡ Ok resolved.now }
+    requires few { length resolved.now.entailments ≤ 2 ^ 20 }
+    ensures { IfOk result (IsSleekReply tree.now resolved.now) }
+{
+    if !is_built(tree) {
+        return Ok(Reply::Refused(Refusal::NotBuilt));
+    }
+    Ok(Reply::Answered(served(alloc, tree, resolved)?))
+}
+
+/// The reply to a source of at most 2^20 bytes.
+pub fn source_reply(alloc: Global, bytes: &[u8]) -> Result<Reply, NoMemory>
+    requires { length bytes.now ≤ source_limit }
+    ensures { IfOk result (IsSourceReply IsSleekReply bytes.now) }
 {
     match resolve(alloc, bytes) {
-        Ok((tree, resolved)) => tree_report(alloc, &tree, &resolved),
-        Err(SourceError::Refused(cause)) => Ok(alone(alloc, Line::Refused(cause))?),
+        Ok((tree, resolved)) => form_reply(alloc, &tree, &resolved),
+        Err(SourceError::Refused(cause)) => Ok(Reply::Refused(cause)),
         Err(SourceError::Memory) => Err(NoMemory),
     }
 }

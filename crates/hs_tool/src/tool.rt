@@ -1,12 +1,16 @@
-ghost use Rattle.std.specs.Prelude.{◌≡◌, ◌⊎◌, ◌<◌, ◌≤◌, [], IfOk, None, Some, map};
-ghost use Rattle.std.specs.Io.KnownBytes.{Appends};
+//! The whole job.
+
+ghost use Rattle.std.specs.Prelude.{IfOk, map};
 ghost use Rattle.std.specs.String.{string_bytes};
 ghost use Rattle.hs_io.specs.Faults.{Rose};
-ghost use Rattle.hs_tool.specs.Sleek.{IsSourceReport};
-ghost use Rattle.hs_tool.specs.Run.{job_named, IsFileReport, IsReport, IsRefusable, HasStatusCause, Whole, Front};
+ghost use Rattle.hs_tool.specs.Reply.{IsFileReply, IsSourceReply};
+ghost use Rattle.hs_tool.specs.Sleek.{IsSleekReply};
+ghost use Rattle.hs_tool.specs.Run.{source_limit, job_named, IsReply, IsReport, Ends};
 
+use crate::laws::statuses_have_causes;
 use crate::output::write_all;
-use crate::sleek::{alone, report};
+use crate::reply::{Reply, alone, lines};
+use crate::sleek::source_reply;
 use crate::statuses::status;
 use crate::{Line, Refusal, SOURCE_LIMIT};
 use hs_cli::{Job, Options, WordsError, job};
@@ -14,6 +18,7 @@ use hs_io::{FetchError, Files, PutError, Sink};
 use hs_print::text;
 use hs_pure::NoMemory;
 use hs_text::Text;
+use sqlite_items::Items;
 use std::alloc::Global;
 use std::thread::Threads;
 
@@ -34,83 +39,64 @@ where
     K: Sink,
     W: Fn(u32) + Sync,
     requires { W.IsAlwaysCallable watch.now }
-
-    // Below 5 the whole report was written, and is right. At 5 a front of it was written, and at 6 that or nothing.
-    ensures whole { result < 5 → Whole
-        (IsReport (F.texts files.old) (Rose (F.faults files.old) (F.faults files.new)) (job_named (map string_bytes words.now)))
-        (K.written sink.old) (K.written sink.new) result }
-    ensures front { result ≡ 5 → Front
-        (IsReport (F.texts files.old) (Rose (F.faults files.old) (F.faults files.new)) (job_named (map string_bytes words.now)))
-        (K.written sink.old) (K.written sink.new) }
-    ensures memory { result ≡ 6 → Appends (K.written sink.old) (K.written sink.new) [] ⊎ Front
-        (IsReport (F.texts files.old) (Rose (F.faults files.old) (F.faults files.new)) (job_named (map string_bytes words.now)))
-        (K.written sink.old) (K.written sink.new) }
-    ensures statuses { result ≤ 6 }
-
-    // Each status has its cause. 6 is want of memory.
-    ensures refused { result ≡ 2 → IsRefusable (F.texts files.old) (job_named (map string_bytes words.now)) }
-    ensures words { result ≡ 3 → job_named (map string_bytes words.now) ≡ None }
-    ensures fetch_fault { result ≡ 4 → Rose (F.faults files.old) (F.faults files.new) }
-    ensures put_fault { result ≡ 5 → Rose (K.faults sink.old) (K.faults sink.new) }
+    // A right report was written as far as the status says, and each status has its cause.
+    ensures { Ends (F.texts files.old) (F.faults files.old) (F.faults files.new) (job_named (map string_bytes words.now))
+        (K.faults sink.old) (K.faults sink.new) (K.written sink.old) (K.written sink.new) result }
 {
     let _ = rt;
     let _ = watch;
+    statuses_have_causes();
     let Ok(report) = report_for(alloc, words, files) else {
         return 6;
     };
-    let Ok(text) = text(alloc, &report) else {
+    let Ok(text) = text(alloc, report.as_slice()) else {
         return 6;
     };
     match write_all(sink, text.as_bytes()) {
-        Ok(()) => status(&report),
+        Ok(()) => status(report.as_slice()),
         Err(PutError::Failed) => 5,
         Err(PutError::Memory) => 6,
     }
 }
 
 // The report for the words.
-#[tactic(auto, unfolding(crate::specs::Run::IsReport))]
 fn report_for<F: Files>(
     alloc: Global,
     words: &[String],
     files: &mut F,
-) -> Result<Vec<Line>, NoMemory>
-    ensures report { IfOk result (λ report. IsReport (F.texts files.old) (Rose (F.faults files.old) (F.faults files.new)) (job_named (map string_bytes words.now)) report.items) }
-    ensures cause { IfOk result (λ report. HasStatusCause (F.texts files.old) (Rose (F.faults files.old) (F.faults files.new)) (job_named (map string_bytes words.now)) report.items) }
+) -> Result<Items<Line>, NoMemory>
+    ensures { IfOk result (IsReport (F.texts files.old) (F.faults files.old) (F.faults files.new) (job_named (map string_bytes words.now))) }
 {
     match job(alloc, words) {
-        Ok(job) => job_report(alloc, job, files),
+        Ok(job) => Ok(lines(alloc, job_reply(alloc, job, files)?)?),
         Err(WordsError::Words) => Ok(alone(alloc, Line::RefusedWords)?),
         Err(WordsError::Memory) => Err(NoMemory),
     }
 }
 
-// The report for a job.
-#[tactic(auto, unfolding(crate::specs::Run::IsReport))]
-fn job_report<F: Files>(alloc: Global, job: Job, files: &mut F) -> Result<Vec<Line>, NoMemory>
-    ensures report { IfOk result (λ report. IsReport (F.texts files.old) (Rose (F.faults files.old) (F.faults files.new)) (Some job) report.items) }
-    ensures cause { IfOk result (λ report. HasStatusCause (F.texts files.old) (Rose (F.faults files.old) (F.faults files.new)) (Some job) report.items) }
+// The reply to a job.
+fn job_reply<F: Files>(alloc: Global, job: Job, files: &mut F) -> Result<Reply, NoMemory>
+    ensures { IfOk result (IsReply (F.texts files.old) (F.faults files.old) (F.faults files.new) job) }
 {
     match job {
         Job::Sleek(name, options) => sleek_file(alloc, name, options, files),
     }
 }
 
-// The report on a file of entailments. The options change no answer yet.
+// The reply to a file of entailments. The options change no answer yet.
 fn sleek_file<F: Files>(
     alloc: Global,
     name: Text,
     options: Options,
     files: &mut F,
-) -> Result<Vec<Line>, NoMemory>
-    ensures report { IfOk result (λ report. IsFileReport (F.texts files.old) (Rose (F.faults files.old) (F.faults files.new)) SOURCE_LIMIT name IsSourceReport report.items) }
-    ensures cause { IfOk result (λ report. HasStatusCause (F.texts files.old) (Rose (F.faults files.old) (F.faults files.new)) (Some (Job.Sleek name options)) report.items) }
+) -> Result<Reply, NoMemory>
+    ensures { IfOk result (IsFileReply (F.texts files.old) (Rose (F.faults files.old) (F.faults files.new)) source_limit name (IsSourceReply IsSleekReply)) }
 {
     let _ = options;
     match files.fetch(alloc, name.as_str(), SOURCE_LIMIT) {
-        Ok(source) => report(alloc, &source),
-        Err(FetchError::Failed) => Ok(alone(alloc, Line::FileFault(name))?),
-        Err(FetchError::TooLarge(_)) => Ok(alone(alloc, Line::Refused(Refusal::FileTooLarge))?),
+        Ok(source) => source_reply(alloc, &source),
+        Err(FetchError::Failed) => Ok(Reply::FileFault(name)),
+        Err(FetchError::TooLarge(_)) => Ok(Reply::Refused(Refusal::FileTooLarge)),
         Err(FetchError::Memory) => Err(NoMemory),
     }
 }

@@ -1,6 +1,6 @@
 use Rattle.std.proofs.Common.{◌≡◌, ◌<◌, IfOk, subst}
 use Rattle.hs_pure.specs.Eval.{stack_of}
-use Rattle.hs_cooper.proofs.Changes.{ok_map}
+use Rattle.hs_cooper_forms.proofs.Changes.{ok_map}
 use Rattle.hs_decide.specs.declared.answer.Answer.TheVariants.{Atoms, Wide}
 use Rattle.hs_decide.specs.Answering.{IsDecided}
 use Rattle.hs_decide.specs.Size.{size_of}

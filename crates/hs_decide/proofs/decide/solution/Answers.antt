@@ -3,7 +3,7 @@ use Rattle.std.proofs.lemmas.Option.{IfSome_then}
 use Rattle.hs_pure.specs.Assertion.{assertion_of}
 use Rattle.hs_pure.specs.Eval.{stack_of}
 use Rattle.hs_elimination.specs.Decided.{without_quantifiers}
-use Rattle.hs_cooper.proofs.Changes.{ok_map}
+use Rattle.hs_cooper_forms.proofs.Changes.{ok_map}
 use Rattle.hs_decide.specs.Variables.{free_variables}
 use Rattle.hs_decide.specs.Size.{quantifier_size, chain_size}
 use Rattle.hs_decide.proofs.Stages.{max_left}

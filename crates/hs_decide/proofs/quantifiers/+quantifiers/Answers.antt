@@ -5,7 +5,7 @@ use Rattle.hs_pure.specs.declared.pure.Pure.TheVariants as pure_of
 use Rattle.hs_pure.specs.Assertion.{assertion_of}
 use Rattle.hs_pure.specs.Occurs.{has_bags}
 use Rattle.hs_pure.specs.Sums.{IsOrdered}
-use Rattle.hs_cooper.proofs.Changes.{ok_map}
+use Rattle.hs_cooper_forms.proofs.Changes.{ok_map}
 use Rattle.hs_decide.proofs.Stages.{not_atoms, not_wide}
 use Rattle.hs_decide.proofs.Joined.{without-And, without-Or, size-And, size-Or, wide-And, wide-Or}
 use Rattle.hs_decide.proofs.Parts.{literal_kept, bags-Not, bags-Exists, bags-Forall, bags-And, bags-Or, ordered-Not, ordered-Exists, ordered-Forall, ordered-And, ordered-Or, simple_of, ordered_of, result-Not, size-Not, wide-Not, result-Exists, size-Exists, size-Exists-inner, wide-Exists, wide-Exists-inner, result-Forall, size-Forall, size-Forall-inner, wide-Forall, wide-Forall-inner}

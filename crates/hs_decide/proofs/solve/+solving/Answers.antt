@@ -6,7 +6,7 @@ use Rattle.hs_pure.specs.Truth.{IsTrueAt}
 use Rattle.hs_elimination.specs.Elimination.{without_variable}
 use Rattle.hs_elimination.proofs.Order.{order_is}
 use Rattle.hs_elimination.proofs.Decided.{truth-without_variable}
-use Rattle.hs_cooper.proofs.Changes.{ok_map}
+use Rattle.hs_cooper_forms.proofs.Changes.{ok_map}
 use Rattle.hs_decide.specs.Size.{chain_size}
 use Rattle.hs_decide.specs.Span.{zeros, plain_stack, HasWideChain}
 use Rattle.hs_decide.proofs.Chain.{Named, nothing_named, empty_is, named_later, simple_later, size_later, wide_later, wide_value, plain_pushed, size_stage, wide_stage, size_first, wide_first, none_later}
