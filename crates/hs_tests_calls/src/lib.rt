@@ -1,10 +1,9 @@
-//! Tests of the calls of the layers: each that takes memory runs once, and its answer is compared.
+//! Tests of calls of the layers that no line of the programs hs_tests_rows, hs_tests_rows_norm, hs_tests_rows_decide and
+//! hs_tests_texts makes: files and sinks, renaming, evaluation with bags.
 #![tactic(auto)]
 
 #[cfg(test)]
 mod build;
-#[cfg(test)]
-mod formulas;
 #[cfg(test)]
 mod heaps;
 #[cfg(test)]
@@ -13,7 +12,5 @@ mod occurrences;
 mod outside;
 #[cfg(test)]
 mod renames;
-#[cfg(test)]
-mod tokens;
 #[cfg(test)]
 mod truths;

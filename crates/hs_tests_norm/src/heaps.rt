@@ -1,9 +1,10 @@
 //! What definitions and formulas tell of themselves.
 
-use crate::build::resolved;
+use crate::build::normal_of;
 use hs_heap::Formula;
 use hs_norm::Resolved;
 use hs_pure::Var;
+use std::alloc::Global;
 use std::test::Fail;
 
 // The disjunct has k = 1 bound and x = 2 free, and y = 3 is free in the other.
@@ -26,6 +27,13 @@ const OTHER: Var = Var {
     bag: false,
 };
 
+fn resolved(alloc: Global) -> Result<Resolved, Fail> {
+    match normal_of(alloc, SOURCE)? {
+        Ok(resolved) => Ok(resolved),
+        Err(_) => Err(Fail::from("a normal form")),
+    }
+}
+
 // The answers of the formula, and of its first disjunct, on the three variables.
 fn formula_has(f: &Formula) -> (bool, bool, bool) {
     (f.has(BOUND), f.has(FREE), f.has(OTHER))
@@ -40,7 +48,7 @@ fn first_has(f: &Formula) -> (bool, bool, bool) {
 
 #[test]
 fn what_a_disjunct_binds_is_not_free_in_it(rt: HostRuntime) -> Result<(), Fail> {
-    let found = resolved(rt.alloc(), SOURCE)?;
+    let found = resolved(rt.alloc())?;
     let Some(e) = found.entailments.get(0) else {
         return Err(Fail::from("an entailment"));
     };
@@ -61,7 +69,7 @@ fn set_next(found: &mut Resolved, next: u32) -> Result<(), Fail> {
 
 #[test]
 fn definitions_are_sound_where_all_numbers_are_below_the_next(rt: HostRuntime) -> Result<(), Fail> {
-    let mut found = resolved(rt.alloc(), SOURCE)?;
+    let mut found = resolved(rt.alloc())?;
     assert!(rt; found.defs.sound());
     set_next(&mut found, 2)?;
     assert!(rt; !found.defs.sound());

@@ -1,23 +1,11 @@
-//! Tests of the normal form of sources: what is refused, and where, and the numbers, formulas and texts of what is not.
+//! Tests of the normal form of sources that no line holds: as many things as there may be, and one more.
+//!
+//! The program `hs_tests_rows_norm` prints the normal forms and refusals of other sources.
 #![tactic(auto)]
 
 #[cfg(test)]
-mod accepted;
-#[cfg(test)]
 mod build;
-#[cfg(test)]
-mod claims;
-#[cfg(test)]
-mod further;
 #[cfg(test)]
 mod heaps;
 #[cfg(test)]
 mod limits;
-#[cfg(test)]
-mod order;
-#[cfg(test)]
-mod refused;
-#[cfg(test)]
-mod sources;
-#[cfg(test)]
-mod texts;

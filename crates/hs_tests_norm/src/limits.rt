@@ -1,8 +1,7 @@
 //! Sources with as many things as they may have, and with one more.
 
-use crate::build::Refusal::TooMany;
-use crate::build::{MOST_BYTES, is_accepted, is_refused};
-use hs_norm::Limit;
+use crate::build::{MOST_BYTES, normal_of};
+use hs_norm::{Limit, NormError};
 use std::alloc::{AllocError, Global};
 use std::test::Fail;
 
@@ -192,7 +191,7 @@ fn allowed(alloc: Global, parts: &Parts) -> Result<String, AllocError> {
 fn is_enough(alloc: Global, parts: &Parts) -> Result<bool, Fail> {
     let mut text = allowed(alloc, parts)?;
     text.push_str(parts.back)?;
-    is_accepted(alloc, text.as_str())
+    Ok(normal_of(alloc, text.as_str())?.is_ok())
 }
 
 fn place(text: &str, skip: u32) -> Result<u32, Fail> {
@@ -210,7 +209,10 @@ fn is_too_many(alloc: Global, parts: &Parts) -> Result<bool, Fail> {
     text.push_str("last")?;
     text.push_str(parts.after)?;
     text.push_str(parts.back)?;
-    is_refused(alloc, text.as_str(), &TooMany(place, parts.limit))
+    match normal_of(alloc, text.as_str())? {
+        Err(NormError::TooMany(at, limit)) => Ok(at == place && limit == parts.limit),
+        _ => Ok(false),
+    }
 }
 
 // The first of these whose bound is another.
