@@ -31,6 +31,19 @@ use hs_text::Text;
 use sqlite_items::Items;
 use std::alloc::Global;
 
+// The printed residue.
+fn residue_text(
+    alloc: Global,
+    defs: &Defs,
+    names: &Names,
+    residue: &Option<Side>,
+) -> Result<Text, NoMemory>
+    ensures { IfOk result (λ text. text ≡ formula_text defs.now (Some names.now) (residue_of residue.now)) }
+{
+    let rest = residue_formula(alloc, residue)?;
+    Ok(Text::new(formula(alloc, &rest, names, defs)?))
+}
+
 // The printed residues, of which there is one.
 fn residues(
     alloc: Global,
@@ -40,10 +53,8 @@ fn residues(
 ) -> Result<Items<Text>, NoMemory>
     ensures { IfOk result (λ texts. texts ≡ formula_text defs.now (Some names.now) (residue_of residue.now) ∷ []) }
 {
-    let rest = residue_formula(alloc, residue)?;
-    let mut texts = Items::new(alloc);
-    texts.push(Text::new(formula(alloc, &rest, names, defs)?))?;
-    Ok(texts)
+    let text = residue_text(alloc, defs, names, residue)?;
+    Ok(Items::from_vec(vec![in alloc; text]?))
 }
 
 // The verdict on an entailment, by its number, that is this claim.
