@@ -31,7 +31,7 @@ use Rattle.hs_points.specs.Formulas as formulas
 use Rattle.hs_numbering.specs.declared.fault.Limit.TheVariants.{Cases}
 use Rattle.hs_numbering.specs.declared.numbering.Numbering.{Numbering}
 use Rattle.hs_numbering.specs.Names.{is_upper}
-use Rattle.hs_numbering.specs.Numbering.{Builder, ◌>>◌, pure, each, each_counted, bind, leave_all, take_flat, take_equations, is_numbered}
+use Rattle.hs_numbering.specs.Numbering.{Builder, ◌>>=◌, ◌>>◌, pure, each, each_counted, bind, leave_all, take_flat, take_equations, is_numbered}
 use Rattle.hs_norm_formula.specs.declared.table.Entry.{Entry}
 use Rattle.hs_norm_formula.specs.declared.sum.Term.{Term as Addend}
 use Rattle.hs_norm_formula.specs.Sum.{number_var, allowed, or_shape, sum}
