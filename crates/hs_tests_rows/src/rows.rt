@@ -17,10 +17,10 @@ fn push_report<H: Threads + Sync>(
     alloc: Global,
     out: &mut Vec<u8>,
     words: &[String],
-    source: &str,
+    source: &[u8],
 ) -> Result<(), AllocError> {
     let name = String::from_str(alloc, "a")?;
-    let file = (name, source.as_bytes().to_vec(alloc)?);
+    let file = (name, source.to_vec(alloc)?);
     let mut files = MemFiles::new(vec![in alloc; file]?, Vec::new(alloc));
     let mut sink = MemSink::new(alloc, Vec::new(alloc), 7);
     let status = run_tool(rt, alloc, words, &mut files, &mut sink, &|_number: u32| {});
@@ -78,7 +78,7 @@ fn push_row<H: Threads + Sync>(
     rt: &H,
     alloc: Global,
     out: &mut Vec<u8>,
-    source: &str,
+    source: &[u8],
     row: &str,
 ) -> Result<(), AllocError> {
     if let Some(words) = row.strip_prefix("$ ") {
@@ -87,7 +87,7 @@ fn push_row<H: Threads + Sync>(
         push_report(rt, alloc, out, &words, source)
     } else {
         let words = words_of(alloc, "sleek a")?;
-        push_report(rt, alloc, out, &words, row)
+        push_report(rt, alloc, out, &words, row.as_bytes())
     }
 }
 
@@ -101,7 +101,7 @@ pub fn table<H: Threads + Sync>(
     let Ok(text) = str::from_utf8(bytes) else {
         return Ok(out);
     };
-    let mut source = "";
+    let mut source = "".as_bytes();
     for row in text.lines() {
         push_str(&mut out, row)?;
         push_str(&mut out, "\n")?;
@@ -111,7 +111,7 @@ pub fn table<H: Threads + Sync>(
         }
         push_row(rt, alloc, &mut out, source, row)?;
         if !row.starts_with("$ ") {
-            source = row;
+            source = row.as_bytes();
         }
     }
     Ok(out)
