@@ -110,13 +110,20 @@ fn push_type(out: &mut String, of: &VarType) -> Result<(), NoMemory> {
     Ok(())
 }
 
-// A variant, with the text of `0 <= VARIANT`.
-fn push_variant(alloc: Global, out: &mut String, variant: &Lin) -> Result<(), NoMemory> {
+// `0 <= VARIANT`.
+fn bounded(alloc: Global, variant: &Lin) -> Result<Pure, NoMemory> {
+    let right = variant.copy(alloc)?;
     let zero = Lin {
         terms: Items::new(alloc),
         constant: 0,
     };
-    let bounded = Pure::Le(zero, variant.copy(alloc)?);
+    Ok(Pure::Le(zero, right))
+}
+
+// A variant, with the text of its bound.
+fn push_variant(alloc: Global, out: &mut String, variant: &Lin) -> Result<(), NoMemory> {
+    // On the heap, so that it is dropped by one call and not case by case.
+    let bounded = Box::new(alloc, bounded(alloc, variant)?)?;
     let text = numbered_pure(alloc, &bounded)?;
     write!(out, "    variant {text}\n")?;
     Ok(())

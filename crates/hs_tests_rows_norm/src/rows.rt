@@ -68,6 +68,9 @@ fn push_counts(out: &mut String, tree: &PureTree) -> Result<(), NoMemory> {
 
 // The tokens of a row, each with its place.
 fn push_token_row(alloc: Global, out: &mut String, row: &str) -> Result<(), NoMemory> {
+    if row.len() > MOST_BYTES {
+        return Ok(());
+    }
     match lex(alloc, row.as_bytes(), 99) {
         Ok(tokens) => push_tokens(out, &tokens),
         Err(error) => push_lex_error(out, &error),
