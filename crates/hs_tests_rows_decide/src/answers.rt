@@ -90,6 +90,7 @@ pub fn push_rest(alloc: Global, out: &mut String, f: &Pure, atoms: u64) -> Resul
 {
     match eliminate(alloc, X, f, atoms) {
         Ok(rest) => {
+            let rest = Box::new(alloc, rest)?;
             let text = numbered_pure(alloc, &rest)?;
             write!(out, "{text}")?;
             Ok(())

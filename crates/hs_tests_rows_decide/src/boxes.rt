@@ -81,7 +81,7 @@ pub fn agrees(alloc: Global, f: &Pure) -> Result<bool, NoRow>
     requires flat { has_quantifiers f.now ≡ false }
     requires ordered { IsOrdered f.now }
 {
-    let rest = without_x(alloc, f)?;
+    let rest = Box::new(alloc, without_x(alloc, f)?)?;
     for y in 0..13u8 {
         for z in 0..13u8 {
             if !is_right_at(alloc, f, &rest, i128::from(y) - 6, i128::from(z) - 6)? {

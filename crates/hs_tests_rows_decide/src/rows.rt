@@ -31,22 +31,22 @@ fn push_question(alloc: Global, out: &mut String, row: &str) -> Result<(), NoRow
         return Err(NoRow);
     };
     let atoms = atoms(budget)?;
-    let left = quantified(alloc, left)?;
-    let right = quantified(alloc, right)?;
+    let left = Box::new(alloc, quantified(alloc, left)?)?;
+    let right = Box::new(alloc, quantified(alloc, right)?)?;
     push_implies(alloc, out, &left, &right, atoms)
 }
 
 fn push_truth(alloc: Global, out: &mut String, row: &str) -> Result<(), NoRow> {
     let (budget, f) = word(row)?;
     let atoms = atoms(budget)?;
-    let f = quantified(alloc, f)?;
+    let f = Box::new(alloc, quantified(alloc, f)?)?;
     push_unsat(alloc, out, &f, atoms)
 }
 
 fn push_elimination(alloc: Global, out: &mut String, row: &str) -> Result<(), NoRow> {
     let (budget, f) = word(row)?;
     let atoms = atoms(budget)?;
-    let f = simple(alloc, f)?;
+    let f = Box::new(alloc, simple(alloc, f)?)?;
     push_rest(alloc, out, &f, atoms)
 }
 
@@ -57,7 +57,7 @@ fn push_witness(alloc: Global, out: &mut String, row: &str) -> Result<(), NoRow>
         return Err(NoRow);
     };
     let atoms = atoms(budget)?;
-    let f = simple(alloc, f)?;
+    let f = Box::new(alloc, simple(alloc, f)?)?;
     push_value(alloc, out, &f, y, atoms)
 }
 
@@ -71,12 +71,12 @@ fn push_agreement(out: &mut String, agrees: bool) -> Result<(), NoRow> {
 }
 
 fn push_box(alloc: Global, out: &mut String, row: &str) -> Result<(), NoRow> {
-    let f = simple(alloc, row)?;
+    let f = Box::new(alloc, simple(alloc, row)?)?;
     push_agreement(out, agrees(alloc, &f)?)
 }
 
 fn push_box_or_0(alloc: Global, out: &mut String, row: &str) -> Result<(), NoRow> {
-    let f = with_divisor_0(alloc, row)?;
+    let f = Box::new(alloc, with_divisor_0(alloc, row)?)?;
     push_agreement(out, agrees(alloc, &f)?)
 }
 
