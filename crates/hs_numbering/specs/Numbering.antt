@@ -5,7 +5,7 @@ use Rattle.std.specs.Str.{bytes_eq}
 use Rattle.hs_tree.specs.declared.ident.Ident.{Ident}
 use Rattle.hs_pure.specs.declared.var.Var.{Var}
 use Rattle.hs_pure.specs.declared.pure.Pure.{Pure}
-use Rattle.hs_pure.specs.declared.memory.NoMemory.{NoMemory}
+use Rattle.hs_text.specs.declared.memory.NoMemory.{NoMemory}
 use Rattle.hs_numbering.specs.declared.fault.Fault.{Fault}
 use Rattle.hs_numbering.specs.declared.fault.Problem.{Problem}
 use Rattle.hs_numbering.specs.declared.fault.Problem.TheVariants.{Unknown, Twice, TooMany, Shape}

@@ -1,5 +1,5 @@
 -- Renamings that keep variables apart merge no terms.
-use Rattle.std.proofs.Common.{◌≡◌, ℕ, zero, suc, ◌<◌, ◌≤◌, ℤ, pos, ◌+ℤ◌, ◌⊎◌, inl, inr, Bool, true, false, nat_lt, ◌||◌, IsTrue, List, [], ◌∷◌, ◌++◌, length, map, take, get_or, refl, sym, ap, ◌∙◌, subst, if◌then◌else◌, arith}
+use Rattle.std.proofs.Common.{◌≡◌, ℕ, zero, suc, ◌<◌, ◌≤◌, ℤ, pos, ◌+ℤ◌, Bool, true, false, nat_lt, ◌||◌, IsTrue, List, [], ◌∷◌, ◌++◌, length, map, take, get_or, refl, sym, ap, subst, if◌then◌else◌, arith}
 use Rattle.std.specs.List.{fold, All, list_any, flat_map}
 use Rattle.std.specs.Ordering.{int_eq}
 use Rattle.std.proofs.lemmas.List.Elements.{All-nil, All-cons}
@@ -11,8 +11,8 @@ use Rattle.hs_pure.specs.declared.pure.Pure.{Pure, map-Pure}
 use Rattle.hs_pure.specs.declared.pure.Pure.TheOpen.{Pure-F}
 use Rattle.hs_pure.specs.Stack.{same}
 use Rattle.hs_pure.specs.Occurs.{in_lin, in_bag, in_bag_level, occurs, occurs_level}
-use Rattle.hs_pure.specs.Rename.{add_term, renamed_terms, bag_sums, bag_sums_level, sums, sums_level, MergeFits, LinInRange, InRange}
-use Rattle.hs_pure.specs.Sums.{RisesFrom, LinIsOrdered, IsOrdered}
+use Rattle.hs_pure.specs.Rename.{add_term, renamed_terms, bag_sums, bag_sums_level, sums, sums_level, LinInRange}
+use Rattle.hs_pure.specs.Sums.{RisesFrom, LinIsOrdered}
 use Rattle.hs_pure.specs.Laws.{ApartIsInRange}
 use Rattle.hs_pure.proofs.Vars.{same-eq, same-refl, or_left, or_right}
 use Rattle.hs_pure.proofs.Levels.{related, Both, related_bag, BothBag}

@@ -1,10 +1,10 @@
 -- What is read of an equation between variables, and that nothing else is read so.
-use Rattle.std.proofs.Common.{◌≡◌, ℤ, pos, Bool, true, false, ◌⊎◌, inl, inr, if◌then◌else◌, List, [], ◌∷◌, Option, Some, None, refl, sym, ap, ◌∙◌, subst}
+use Rattle.std.proofs.Common.{◌≡◌, ℤ, pos, Bool, true, false, ◌⊎◌, inl, inr, List, [], ◌∷◌, Option, Some, None, refl, sym, ap, ◌∙◌}
 use Rattle.std.specs.Ordering.{int_eq}
 use Rattle.std.proofs.lemmas.Bool.Decides.{Decides-int_eq}
 use Rattle.hs_pure.specs.declared.var.Var.{Var}
 use Rattle.hs_pure.specs.declared.lin.Lin.{Lin}
-use Rattle.hs_pure.specs.declared.pure.Pure.{Pure, fold-Pure, map-Pure, ind-Pure, roll-Pure, fold-roll-Pure}
+use Rattle.hs_pure.specs.declared.pure.Pure.{Pure, map-Pure, ind-Pure, roll-Pure, fold-roll-Pure}
 use Rattle.hs_pure.specs.declared.pure.Pure.TheOpen.{Pure-F}
 use Rattle.hs_pure.specs.declared.pure.Pure.TheVariants as pure_of
 use Rattle.hs_pure.specs.Equated.{variable_sum, single_by, single, both_single, equated_level, equated}

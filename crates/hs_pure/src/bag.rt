@@ -25,6 +25,7 @@ pub enum Bag {
 
 impl Bag {
     /// An equal bag.
+    #[cycle(copy)]
     pub fn copy(&self, alloc: Global) -> Result<Bag, NoMemory>
         ensures { IfOk result (λ b. b ≡ self.now) }
     {
@@ -32,21 +33,18 @@ impl Bag {
             Bag::Empty => Ok(Bag::Empty),
             Bag::Name(v) => Ok(Bag::Name(*v)),
             Bag::One(a) => Ok(Bag::One(a.copy(alloc)?)),
-            Bag::Union(a, b) => {
-                let a = a.get().copy(alloc)?;
-                let b = b.get().copy(alloc)?;
-                Ok(Bag::Union(Boxed::new(alloc, a)?, Boxed::new(alloc, b)?))
-            }
-            Bag::Inter(a, b) => {
-                let a = a.get().copy(alloc)?;
-                let b = b.get().copy(alloc)?;
-                Ok(Bag::Inter(Boxed::new(alloc, a)?, Boxed::new(alloc, b)?))
-            }
-            Bag::Diff(a, b) => {
-                let a = a.get().copy(alloc)?;
-                let b = b.get().copy(alloc)?;
-                Ok(Bag::Diff(Boxed::new(alloc, a)?, Boxed::new(alloc, b)?))
-            }
+            Bag::Union(a, b) => Ok(Bag::Union(
+                copy_boxed(alloc, a.get())?,
+                copy_boxed(alloc, b.get())?,
+            )),
+            Bag::Inter(a, b) => Ok(Bag::Inter(
+                copy_boxed(alloc, a.get())?,
+                copy_boxed(alloc, b.get())?,
+            )),
+            Bag::Diff(a, b) => Ok(Bag::Diff(
+                copy_boxed(alloc, a.get())?,
+                copy_boxed(alloc, b.get())?,
+            )),
         }
     }
 
@@ -77,6 +75,7 @@ impl Bag {
     }
 
     /// The bag with each listed variable in the place of another, all at once.
+    #[cycle(rename)]
     #[tactic(auto, using(crate::proofs::Ranges::one_range))]
     pub fn rename(&self, alloc: Global, map: &[(Var, Var)]) -> Result<Bag, NoMemory>
         requires { BagInRange (renaming map.now) self.now }
@@ -87,20 +86,59 @@ impl Bag {
             Bag::Name(v) => Ok(Bag::Name(renamed(map, *v))),
             Bag::One(a) => Ok(Bag::One(a.rename(alloc, map)?)),
             Bag::Union(a, b) => {
-                let a = a.get().rename(alloc, map)?;
-                let b = b.get().rename(alloc, map)?;
-                Ok(Bag::Union(Boxed::new(alloc, a)?, Boxed::new(alloc, b)?))
+                let a = rename_boxed(alloc, a.get(), map)?;
+                let b = rename_boxed(alloc, b.get(), map)?;
+                Ok(Bag::Union(a, b))
             }
             Bag::Inter(a, b) => {
-                let a = a.get().rename(alloc, map)?;
-                let b = b.get().rename(alloc, map)?;
-                Ok(Bag::Inter(Boxed::new(alloc, a)?, Boxed::new(alloc, b)?))
+                let a = rename_boxed(alloc, a.get(), map)?;
+                let b = rename_boxed(alloc, b.get(), map)?;
+                Ok(Bag::Inter(a, b))
             }
             Bag::Diff(a, b) => {
-                let a = a.get().rename(alloc, map)?;
-                let b = b.get().rename(alloc, map)?;
-                Ok(Bag::Diff(Boxed::new(alloc, a)?, Boxed::new(alloc, b)?))
+                let a = rename_boxed(alloc, a.get(), map)?;
+                let b = rename_boxed(alloc, b.get(), map)?;
+                Ok(Bag::Diff(a, b))
             }
         }
     }
+}
+
+// On the heap, so that the callers drop it by one call and not case by case.
+#[cycle(copy)]
+fn copy_boxed(alloc: Global, b: &Bag) -> Result<Boxed<Bag>, NoMemory>
+    ensures { IfOk result (λ c. c ≡ b.now) }
+{
+    Ok(Boxed::new(alloc, b.copy(alloc)?)?)
+}
+
+#[cycle(rename)]
+fn rename_boxed(alloc: Global, b: &Bag, map: &[(Var, Var)]) -> Result<Boxed<Bag>, NoMemory>
+    requires { BagInRange (renaming map.now) b.now }
+    ensures { IfOk result (λ c. c ≡ renamed_bag (renaming map.now) b.now) }
+{
+    Ok(Boxed::new(alloc, b.rename(alloc, map)?)?)
+}
+
+pub fn copy_two(alloc: Global, a: &Bag, b: &Bag) -> Result<(Bag, Bag), NoMemory>
+    ensures { IfOk result (λ r. r ≡ (a.now, b.now)) }
+{
+    let first = copy_boxed(alloc, a)?;
+    let second = b.copy(alloc)?;
+    Ok((first.into_inner(), second))
+}
+
+pub fn rename_two(
+    alloc: Global,
+    a: &Bag,
+    b: &Bag,
+    map: &[(Var, Var)],
+) -> Result<(Bag, Bag), NoMemory>
+    requires first { BagInRange (renaming map.now) a.now }
+    requires second { BagInRange (renaming map.now) b.now }
+    ensures { IfOk result (λ r. r ≡ (renamed_bag (renaming map.now) a.now, renamed_bag (renaming map.now) b.now)) }
+{
+    let first = rename_boxed(alloc, a, map)?;
+    let second = b.rename(alloc, map)?;
+    Ok((first.into_inner(), second))
 }

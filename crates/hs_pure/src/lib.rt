@@ -13,7 +13,6 @@ mod equated;
 mod eval;
 mod laws;
 mod lin;
-mod memory;
 mod pure;
 mod shared;
 mod valuation;
@@ -21,13 +20,13 @@ mod var;
 
 pub use bag::Bag;
 pub use eval::Wide;
+pub use hs_text::NoMemory;
 pub use laws::{
     and_is_all, apart_is_in_range, equated_is, free_occurs, light_is_in_range, occurs_below_top,
     or_is_any, renamed_bag_use, renamed_is_light, renamed_is_ordered, truth_is_of_free,
     valuation_counts,
 };
 pub use lin::Lin;
-pub use memory::NoMemory;
 pub use pure::Pure;
 pub use valuation::Valuation;
 pub use var::Var;

@@ -5,6 +5,7 @@ ghost use Rattle.hs_pure.specs.Rename.{renaming, renamed as renamed_pure, InRang
 ghost use Rattle.hs_pure.specs.Stack.{Stack};
 ghost use Rattle.hs_pure.specs.Truth.{TrueAt};
 
+use crate::bag::{copy_two, rename_two};
 use crate::var::renamed;
 use crate::{Bag, Lin, NoMemory, Var};
 use sqlite_items::{Boxed, Items};
@@ -43,28 +44,24 @@ impl Pure {
             Pure::Lt(a, b) => Ok(Pure::Lt(a.copy(alloc)?, b.copy(alloc)?)),
             Pure::Le(a, b) => Ok(Pure::Le(a.copy(alloc)?, b.copy(alloc)?)),
             Pure::Divides(d, a) => Ok(Pure::Divides(*d, a.copy(alloc)?)),
-            Pure::BagEq(a, b) => Ok(Pure::BagEq(a.copy(alloc)?, b.copy(alloc)?)),
-            Pure::Subset(a, b) => Ok(Pure::Subset(a.copy(alloc)?, b.copy(alloc)?)),
+            Pure::BagEq(a, b) => {
+                let (a, b) = copy_two(alloc, a, b)?;
+                Ok(Pure::BagEq(a, b))
+            }
+            Pure::Subset(a, b) => {
+                let (a, b) = copy_two(alloc, a, b)?;
+                Ok(Pure::Subset(a, b))
+            }
             Pure::Member(a, b) => Ok(Pure::Member(a.copy(alloc)?, b.copy(alloc)?)),
             Pure::AllOf(u, b, p) => {
-                let b = b.copy(alloc)?;
-                let p = p.get().copy(alloc)?;
-                Ok(Pure::AllOf(*u, b, Boxed::new(alloc, p)?))
+                let p = copy_boxed(alloc, p.get())?;
+                Ok(Pure::AllOf(*u, b.copy(alloc)?, p))
             }
-            Pure::Not(p) => {
-                let p = p.get().copy(alloc)?;
-                Ok(Pure::Not(Boxed::new(alloc, p)?))
-            }
+            Pure::Not(p) => Ok(Pure::Not(copy_boxed(alloc, p.get())?)),
             Pure::And(ps) => Ok(Pure::And(copy_all(alloc, ps.as_slice())?)),
             Pure::Or(ps) => Ok(Pure::Or(copy_all(alloc, ps.as_slice())?)),
-            Pure::Exists(u, p) => {
-                let p = p.get().copy(alloc)?;
-                Ok(Pure::Exists(*u, Boxed::new(alloc, p)?))
-            }
-            Pure::Forall(u, p) => {
-                let p = p.get().copy(alloc)?;
-                Ok(Pure::Forall(*u, Boxed::new(alloc, p)?))
-            }
+            Pure::Exists(u, p) => Ok(Pure::Exists(*u, copy_boxed(alloc, p.get())?)),
+            Pure::Forall(u, p) => Ok(Pure::Forall(*u, copy_boxed(alloc, p.get())?)),
         }
     }
 
@@ -182,30 +179,40 @@ impl Pure {
             Pure::Lt(a, b) => Ok(Pure::Lt(a.rename(alloc, map)?, b.rename(alloc, map)?)),
             Pure::Le(a, b) => Ok(Pure::Le(a.rename(alloc, map)?, b.rename(alloc, map)?)),
             Pure::Divides(d, a) => Ok(Pure::Divides(*d, a.rename(alloc, map)?)),
-            Pure::BagEq(a, b) => Ok(Pure::BagEq(a.rename(alloc, map)?, b.rename(alloc, map)?)),
-            Pure::Subset(a, b) => Ok(Pure::Subset(a.rename(alloc, map)?, b.rename(alloc, map)?)),
+            Pure::BagEq(a, b) => {
+                let (a, b) = rename_two(alloc, a, b, map)?;
+                Ok(Pure::BagEq(a, b))
+            }
+            Pure::Subset(a, b) => {
+                let (a, b) = rename_two(alloc, a, b, map)?;
+                Ok(Pure::Subset(a, b))
+            }
             Pure::Member(a, b) => Ok(Pure::Member(a.rename(alloc, map)?, b.rename(alloc, map)?)),
             Pure::AllOf(u, b, p) => {
-                let b = b.rename(alloc, map)?;
-                let p = p.get().put_names(alloc, map)?;
-                Ok(Pure::AllOf(renamed(map, *u), b, Boxed::new(alloc, p)?))
+                let p = rename_boxed(alloc, p.get(), map)?;
+                Ok(Pure::AllOf(renamed(map, *u), b.rename(alloc, map)?, p))
             }
-            Pure::Not(p) => {
-                let p = p.get().put_names(alloc, map)?;
-                Ok(Pure::Not(Boxed::new(alloc, p)?))
-            }
+            Pure::Not(p) => Ok(Pure::Not(rename_boxed(alloc, p.get(), map)?)),
             Pure::And(ps) => Ok(Pure::And(rename_all(alloc, ps.as_slice(), map)?)),
             Pure::Or(ps) => Ok(Pure::Or(rename_all(alloc, ps.as_slice(), map)?)),
             Pure::Exists(u, p) => {
-                let p = p.get().put_names(alloc, map)?;
-                Ok(Pure::Exists(renamed(map, *u), Boxed::new(alloc, p)?))
+                let p = rename_boxed(alloc, p.get(), map)?;
+                Ok(Pure::Exists(renamed(map, *u), p))
             }
             Pure::Forall(u, p) => {
-                let p = p.get().put_names(alloc, map)?;
-                Ok(Pure::Forall(renamed(map, *u), Boxed::new(alloc, p)?))
+                let p = rename_boxed(alloc, p.get(), map)?;
+                Ok(Pure::Forall(renamed(map, *u), p))
             }
         }
     }
+}
+
+// On the heap, so that the callers drop it by one call and not case by case.
+#[cycle(copy)]
+fn copy_boxed(alloc: Global, p: &Pure) -> Result<Boxed<Pure>, NoMemory>
+    ensures { IfOk result (λ c. c ≡ p.now) }
+{
+    Ok(Boxed::new(alloc, p.copy(alloc)?)?)
 }
 
 #[cycle(copy)]
@@ -264,6 +271,14 @@ fn any_has_bags(ps: &[Pure]) -> bool
         }
     }
     false
+}
+
+#[cycle(rename)]
+fn rename_boxed(alloc: Global, p: &Pure, pairs: &[(Var, Var)]) -> Result<Boxed<Pure>, NoMemory>
+    requires { InRange (renaming pairs.now) p.now }
+    ensures { IfOk result (λ c. c ≡ renamed_pure (renaming pairs.now) p.now) }
+{
+    Ok(Boxed::new(alloc, p.put_names(alloc, pairs)?)?)
 }
 
 #[cycle(rename)]

@@ -1,8 +1,9 @@
 ghost use Rattle.std.specs.Prelude.{◌≡◌, IfOk};
 
 use crate::ident::Ident;
+use hs_text::NoMemory;
 use sqlite_items::{Boxed, Items};
-use std::alloc::{AllocError, Global};
+use std::alloc::Global;
 
 /// An expression.
 #[cycle(expr)]
@@ -38,7 +39,7 @@ pub enum PartTree {
 
 impl PartTree {
     /// An equal part.
-    pub fn copy(&self, alloc: Global) -> Result<PartTree, AllocError>
+    pub fn copy(&self, alloc: Global) -> Result<PartTree, NoMemory>
         ensures { IfOk result (λ t. t ≡ self.now) }
     {
         match self {
@@ -53,7 +54,7 @@ impl PartTree {
 fn copy_parts(
     alloc: Global,
     parts: &[(bool, PartTree)],
-) -> Result<Items<(bool, PartTree)>, AllocError>
+) -> Result<Items<(bool, PartTree)>, NoMemory>
     ensures { IfOk result (λ all. all ≡ parts.now) }
 {
     let mut all = Items::new(alloc);
@@ -65,7 +66,7 @@ fn copy_parts(
 }
 
 #[cycle(copy)]
-pub fn copy_exprs(alloc: Global, exprs: &[ExprTree]) -> Result<Items<ExprTree>, AllocError>
+pub fn copy_exprs(alloc: Global, exprs: &[ExprTree]) -> Result<Items<ExprTree>, NoMemory>
     ensures { IfOk result (λ all. all ≡ exprs.now) }
 {
     let mut all = Items::new(alloc);
@@ -75,28 +76,45 @@ pub fn copy_exprs(alloc: Global, exprs: &[ExprTree]) -> Result<Items<ExprTree>, 
     Ok(all)
 }
 
+// On the heap, so that the callers drop it by one call and not case by case.
+#[cycle(copy)]
+fn copy_boxed(alloc: Global, e: &ExprTree) -> Result<Boxed<ExprTree>, NoMemory>
+    ensures { IfOk result (λ t. t ≡ e.now) }
+{
+    Ok(Boxed::new(alloc, e.copy(alloc)?)?)
+}
+
+/// Equal expressions.
+pub fn copy_two(alloc: Global, a: &ExprTree, b: &ExprTree) -> Result<(ExprTree, ExprTree), NoMemory>
+    ensures { IfOk result (λ r. r ≡ (a.now, b.now)) }
+{
+    let first = copy_boxed(alloc, a)?;
+    let second = b.copy(alloc)?;
+    Ok((first.into_inner(), second))
+}
+
 impl ExprKind {
     /// An equal kind.
     #[cycle(copy)]
-    pub fn copy(&self, alloc: Global) -> Result<ExprKind, AllocError>
+    pub fn copy(&self, alloc: Global) -> Result<ExprKind, NoMemory>
         ensures { IfOk result (λ t. t ≡ self.now) }
     {
         match self {
             ExprKind::Sum(parts) => Ok(ExprKind::Sum(copy_parts(alloc, parts.as_slice())?)),
             ExprKind::Braces(exprs) => Ok(ExprKind::Braces(copy_exprs(alloc, exprs.as_slice())?)),
             ExprKind::Union(left, right) => {
-                let left = Boxed::new(alloc, left.get().copy(alloc)?)?;
-                let right = Boxed::new(alloc, right.get().copy(alloc)?)?;
+                let left = copy_boxed(alloc, left.get())?;
+                let right = copy_boxed(alloc, right.get())?;
                 Ok(ExprKind::Union(left, right))
             }
             ExprKind::Inter(left, right) => {
-                let left = Boxed::new(alloc, left.get().copy(alloc)?)?;
-                let right = Boxed::new(alloc, right.get().copy(alloc)?)?;
+                let left = copy_boxed(alloc, left.get())?;
+                let right = copy_boxed(alloc, right.get())?;
                 Ok(ExprKind::Inter(left, right))
             }
             ExprKind::Diff(left, right) => {
-                let left = Boxed::new(alloc, left.get().copy(alloc)?)?;
-                let right = Boxed::new(alloc, right.get().copy(alloc)?)?;
+                let left = copy_boxed(alloc, left.get())?;
+                let right = copy_boxed(alloc, right.get())?;
                 Ok(ExprKind::Diff(left, right))
             }
         }
@@ -106,7 +124,7 @@ impl ExprKind {
 impl ExprTree {
     /// An equal expression.
     #[cycle(copy)]
-    pub fn copy(&self, alloc: Global) -> Result<ExprTree, AllocError>
+    pub fn copy(&self, alloc: Global) -> Result<ExprTree, NoMemory>
         ensures { IfOk result (λ t. t ≡ self.now) }
     {
         Ok(ExprTree {

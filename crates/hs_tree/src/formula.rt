@@ -3,8 +3,9 @@ ghost use Rattle.std.specs.Prelude.{◌≡◌, IfOk};
 use crate::expr::ExprTree;
 use crate::ident::{Ident, copy_idents};
 use crate::item::{ItemTree, copy_items};
+use hs_text::NoMemory;
 use sqlite_items::Items;
-use std::alloc::{AllocError, Global};
+use std::alloc::Global;
 
 /// A disjunction of heaps with conjuncts.
 #[derive(Drop)]
@@ -42,7 +43,7 @@ pub enum ArgTree {
 
 impl ArgTree {
     /// An equal argument.
-    pub fn copy(&self, alloc: Global) -> Result<ArgTree, AllocError>
+    pub fn copy(&self, alloc: Global) -> Result<ArgTree, NoMemory>
         ensures { IfOk result (λ t. t ≡ self.now) }
     {
         match self {
@@ -52,7 +53,7 @@ impl ArgTree {
     }
 }
 
-fn copy_args(alloc: Global, args: &[ArgTree]) -> Result<Items<ArgTree>, AllocError>
+fn copy_args(alloc: Global, args: &[ArgTree]) -> Result<Items<ArgTree>, NoMemory>
     ensures { IfOk result (λ all. all ≡ args.now) }
 {
     let mut all = Items::new(alloc);
@@ -64,7 +65,7 @@ fn copy_args(alloc: Global, args: &[ArgTree]) -> Result<Items<ArgTree>, AllocErr
 
 impl AtomTree {
     /// An equal atom.
-    pub fn copy(&self, alloc: Global) -> Result<AtomTree, AllocError>
+    pub fn copy(&self, alloc: Global) -> Result<AtomTree, NoMemory>
         ensures { IfOk result (λ t. t ≡ self.now) }
     {
         Ok(AtomTree {
@@ -75,7 +76,7 @@ impl AtomTree {
     }
 }
 
-fn copy_atoms(alloc: Global, atoms: &[AtomTree]) -> Result<Items<AtomTree>, AllocError>
+fn copy_atoms(alloc: Global, atoms: &[AtomTree]) -> Result<Items<AtomTree>, NoMemory>
     ensures { IfOk result (λ all. all ≡ atoms.now) }
 {
     let mut all = Items::new(alloc);
@@ -87,7 +88,7 @@ fn copy_atoms(alloc: Global, atoms: &[AtomTree]) -> Result<Items<AtomTree>, Allo
 
 impl DisjunctTree {
     /// An equal disjunct.
-    pub fn copy(&self, alloc: Global) -> Result<DisjunctTree, AllocError>
+    pub fn copy(&self, alloc: Global) -> Result<DisjunctTree, NoMemory>
         ensures { IfOk result (λ t. t ≡ self.now) }
     {
         Ok(DisjunctTree {
@@ -99,7 +100,7 @@ impl DisjunctTree {
     }
 }
 
-fn copy_cases(alloc: Global, cases: &[DisjunctTree]) -> Result<Items<DisjunctTree>, AllocError>
+fn copy_cases(alloc: Global, cases: &[DisjunctTree]) -> Result<Items<DisjunctTree>, NoMemory>
     ensures { IfOk result (λ all. all ≡ cases.now) }
 {
     let mut all = Items::new(alloc);
@@ -111,7 +112,7 @@ fn copy_cases(alloc: Global, cases: &[DisjunctTree]) -> Result<Items<DisjunctTre
 
 impl FormulaTree {
     /// An equal formula.
-    pub fn copy(&self, alloc: Global) -> Result<FormulaTree, AllocError>
+    pub fn copy(&self, alloc: Global) -> Result<FormulaTree, NoMemory>
         ensures { IfOk result (λ t. t ≡ self.now) }
     {
         Ok(FormulaTree {

@@ -1,8 +1,8 @@
 ghost use Rattle.std.specs.Prelude.{◌≡◌, IfOk};
 
-use hs_text::Text;
+use hs_text::{NoMemory, Text};
 use sqlite_items::Items;
-use std::alloc::{AllocError, Global};
+use std::alloc::Global;
 
 /// A name, `self` or `res`, and where it stands.
 #[derive(Debug, Drop)]
@@ -14,7 +14,7 @@ pub struct Ident {
 
 impl Ident {
     /// An equal name.
-    pub fn copy(&self, alloc: Global) -> Result<Ident, AllocError>
+    pub fn copy(&self, alloc: Global) -> Result<Ident, NoMemory>
         ensures { IfOk result (λ t. t ≡ self.now) }
     {
         Ok(Ident {
@@ -24,7 +24,7 @@ impl Ident {
     }
 }
 
-pub fn copy_idents(alloc: Global, idents: &[Ident]) -> Result<Items<Ident>, AllocError>
+pub fn copy_idents(alloc: Global, idents: &[Ident]) -> Result<Items<Ident>, NoMemory>
     ensures { IfOk result (λ all. all ≡ idents.now) }
 {
     let mut all = Items::new(alloc);

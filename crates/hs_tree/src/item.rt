@@ -1,9 +1,10 @@
 ghost use Rattle.std.specs.Prelude.{◌≡◌, IfOk};
 
-use crate::expr::ExprTree;
+use crate::expr::{ExprTree, copy_two};
 use crate::ident::Ident;
+use hs_text::NoMemory;
 use sqlite_items::{Boxed, Items};
-use std::alloc::{AllocError, Global};
+use std::alloc::Global;
 
 /// An "or" of "and"s.
 #[cycle(item)]
@@ -55,7 +56,7 @@ pub enum RelTree {
     Within,
 }
 
-pub fn copy_items(alloc: Global, items: &[ItemTree]) -> Result<Items<ItemTree>, AllocError>
+pub fn copy_items(alloc: Global, items: &[ItemTree]) -> Result<Items<ItemTree>, NoMemory>
     ensures { IfOk result (λ all. all ≡ items.now) }
 {
     let mut all = Items::new(alloc);
@@ -66,10 +67,7 @@ pub fn copy_items(alloc: Global, items: &[ItemTree]) -> Result<Items<ItemTree>, 
 }
 
 #[cycle(copy)]
-fn copy_cases(
-    alloc: Global,
-    cases: &[Items<ItemTree>],
-) -> Result<Items<Items<ItemTree>>, AllocError>
+fn copy_cases(alloc: Global, cases: &[Items<ItemTree>]) -> Result<Items<Items<ItemTree>>, NoMemory>
     ensures { IfOk result (λ all. all ≡ cases.now) }
 {
     let mut all = Items::new(alloc);
@@ -87,7 +85,7 @@ fn copy_cases(
 impl PureTree {
     /// An equal formula.
     #[cycle(copy)]
-    pub fn copy(&self, alloc: Global) -> Result<PureTree, AllocError>
+    pub fn copy(&self, alloc: Global) -> Result<PureTree, NoMemory>
         ensures { IfOk result (λ t. t ≡ self.now) }
     {
         Ok(PureTree {
@@ -97,19 +95,24 @@ impl PureTree {
     }
 }
 
+// On the heap, so that the callers drop it by one call and not case by case.
+#[cycle(copy)]
+fn copy_boxed(alloc: Global, item: &ItemTree) -> Result<Boxed<ItemTree>, NoMemory>
+    ensures { IfOk result (λ t. t ≡ item.now) }
+{
+    Ok(Boxed::new(alloc, item.copy(alloc)?)?)
+}
+
 impl ItemKind {
     /// An equal kind.
     #[cycle(copy)]
-    pub fn copy(&self, alloc: Global) -> Result<ItemKind, AllocError>
+    pub fn copy(&self, alloc: Global) -> Result<ItemKind, NoMemory>
         ensures { IfOk result (λ t. t ≡ self.now) }
     {
         match self {
             ItemKind::True => Ok(ItemKind::True),
             ItemKind::False => Ok(ItemKind::False),
-            ItemKind::Not(item) => {
-                let item = item.get().copy(alloc)?;
-                Ok(ItemKind::Not(Boxed::new(alloc, item)?))
-            }
+            ItemKind::Not(item) => Ok(ItemKind::Not(copy_boxed(alloc, item.get())?)),
             ItemKind::Group(body) => Ok(ItemKind::Group(body.copy(alloc)?)),
             ItemKind::Exists(name, body) => {
                 Ok(ItemKind::Exists(name.copy(alloc)?, body.copy(alloc)?))
@@ -123,11 +126,10 @@ impl ItemKind {
                 body.copy(alloc)?,
             )),
             ItemKind::Divides(number, expr) => Ok(ItemKind::Divides(*number, expr.copy(alloc)?)),
-            ItemKind::Rel(relation, left, right) => Ok(ItemKind::Rel(
-                *relation,
-                left.copy(alloc)?,
-                right.copy(alloc)?,
-            )),
+            ItemKind::Rel(relation, left, right) => {
+                let (left, right) = copy_two(alloc, left, right)?;
+                Ok(ItemKind::Rel(*relation, left, right))
+            }
         }
     }
 }
@@ -135,7 +137,7 @@ impl ItemKind {
 impl ItemTree {
     /// An equal item.
     #[cycle(copy)]
-    pub fn copy(&self, alloc: Global) -> Result<ItemTree, AllocError>
+    pub fn copy(&self, alloc: Global) -> Result<ItemTree, NoMemory>
         ensures { IfOk result (λ t. t ≡ self.now) }
     {
         Ok(ItemTree {

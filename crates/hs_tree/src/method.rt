@@ -1,11 +1,12 @@
 ghost use Rattle.std.specs.Prelude.{◌≡◌, IfOk};
 
-use crate::expr::{ExprTree, copy_exprs};
+use crate::expr::{ExprTree, copy_exprs, copy_two};
 use crate::formula::FormulaTree;
 use crate::ident::Ident;
 use crate::item::RelTree;
+use hs_text::NoMemory;
 use sqlite_items::{Boxed, Items};
-use std::alloc::{AllocError, Global};
+use std::alloc::Global;
 
 /// A method.
 #[derive(Drop)]
@@ -131,7 +132,7 @@ pub enum TestKind {
 
 impl TypeTree {
     /// An equal type.
-    pub fn copy(&self, alloc: Global) -> Result<TypeTree, AllocError>
+    pub fn copy(&self, alloc: Global) -> Result<TypeTree, NoMemory>
         ensures { IfOk result (λ t. t ≡ self.now) }
     {
         match self {
@@ -143,7 +144,7 @@ impl TypeTree {
 
 impl ParamTree {
     /// An equal parameter.
-    pub fn copy(&self, alloc: Global) -> Result<ParamTree, AllocError>
+    pub fn copy(&self, alloc: Global) -> Result<ParamTree, NoMemory>
         ensures { IfOk result (λ t. t ≡ self.now) }
     {
         Ok(ParamTree {
@@ -154,7 +155,7 @@ impl ParamTree {
     }
 }
 
-pub fn copy_params(alloc: Global, params: &[ParamTree]) -> Result<Items<ParamTree>, AllocError>
+pub fn copy_params(alloc: Global, params: &[ParamTree]) -> Result<Items<ParamTree>, NoMemory>
     ensures { IfOk result (λ all. all ≡ params.now) }
 {
     let mut all = Items::new(alloc);
@@ -166,7 +167,7 @@ pub fn copy_params(alloc: Global, params: &[ParamTree]) -> Result<Items<ParamTre
 
 impl CallTree {
     /// An equal call.
-    pub fn copy(&self, alloc: Global) -> Result<CallTree, AllocError>
+    pub fn copy(&self, alloc: Global) -> Result<CallTree, NoMemory>
         ensures { IfOk result (λ t. t ≡ self.now) }
     {
         Ok(CallTree {
@@ -178,7 +179,7 @@ impl CallTree {
 
 impl ValueTree {
     /// An equal value.
-    pub fn copy(&self, alloc: Global) -> Result<ValueTree, AllocError>
+    pub fn copy(&self, alloc: Global) -> Result<ValueTree, NoMemory>
         ensures { IfOk result (λ t. t ≡ self.now) }
     {
         match self {
@@ -200,7 +201,7 @@ impl ValueTree {
 fn copy_test_cases(
     alloc: Global,
     cases: &[Items<TestTree>],
-) -> Result<Items<Items<TestTree>>, AllocError>
+) -> Result<Items<Items<TestTree>>, NoMemory>
     ensures { IfOk result (λ all. all ≡ cases.now) }
 {
     let mut all = Items::new(alloc);
@@ -218,7 +219,7 @@ fn copy_test_cases(
 impl CondTree {
     /// An equal condition.
     #[cycle(copy_test)]
-    pub fn copy(&self, alloc: Global) -> Result<CondTree, AllocError>
+    pub fn copy(&self, alloc: Global) -> Result<CondTree, NoMemory>
         ensures { IfOk result (λ t. t ≡ self.now) }
     {
         Ok(CondTree {
@@ -228,23 +229,27 @@ impl CondTree {
     }
 }
 
+// On the heap, so that the caller drops it by one call and not case by case.
+#[cycle(copy_test)]
+fn copy_boxed(alloc: Global, test: &TestTree) -> Result<Boxed<TestTree>, NoMemory>
+    ensures { IfOk result (λ t. t ≡ test.now) }
+{
+    Ok(Boxed::new(alloc, test.copy(alloc)?)?)
+}
+
 impl TestKind {
     /// An equal kind.
     #[cycle(copy_test)]
-    pub fn copy(&self, alloc: Global) -> Result<TestKind, AllocError>
+    pub fn copy(&self, alloc: Global) -> Result<TestKind, NoMemory>
         ensures { IfOk result (λ t. t ≡ self.now) }
     {
         match self {
-            TestKind::Not(test) => {
-                let test = test.get().copy(alloc)?;
-                Ok(TestKind::Not(Boxed::new(alloc, test)?))
-            }
+            TestKind::Not(test) => Ok(TestKind::Not(copy_boxed(alloc, test.get())?)),
             TestKind::Group(cond) => Ok(TestKind::Group(cond.copy(alloc)?)),
-            TestKind::Rel(relation, left, right) => Ok(TestKind::Rel(
-                *relation,
-                left.copy(alloc)?,
-                right.copy(alloc)?,
-            )),
+            TestKind::Rel(relation, left, right) => {
+                let (left, right) = copy_two(alloc, left, right)?;
+                Ok(TestKind::Rel(*relation, left, right))
+            }
         }
     }
 }
@@ -252,7 +257,7 @@ impl TestKind {
 impl TestTree {
     /// An equal test.
     #[cycle(copy_test)]
-    pub fn copy(&self, alloc: Global) -> Result<TestTree, AllocError>
+    pub fn copy(&self, alloc: Global) -> Result<TestTree, NoMemory>
         ensures { IfOk result (λ t. t ≡ self.now) }
     {
         Ok(TestTree {
@@ -266,7 +271,7 @@ impl TestTree {
 fn copy_statements(
     alloc: Global,
     statements: &[StatementTree],
-) -> Result<Items<StatementTree>, AllocError>
+) -> Result<Items<StatementTree>, NoMemory>
     ensures { IfOk result (λ all. all ≡ statements.now) }
 {
     let mut all = Items::new(alloc);
@@ -279,7 +284,7 @@ fn copy_statements(
 impl BlockTree {
     /// An equal block.
     #[cycle(copy_block)]
-    pub fn copy(&self, alloc: Global) -> Result<BlockTree, AllocError>
+    pub fn copy(&self, alloc: Global) -> Result<BlockTree, NoMemory>
         ensures { IfOk result (λ t. t ≡ self.now) }
     {
         Ok(BlockTree {
@@ -293,7 +298,7 @@ impl BlockTree {
 impl StatementKind {
     /// An equal kind.
     #[cycle(copy_block)]
-    pub fn copy(&self, alloc: Global) -> Result<StatementKind, AllocError>
+    pub fn copy(&self, alloc: Global) -> Result<StatementKind, NoMemory>
         ensures { IfOk result (λ t. t ≡ self.now) }
     {
         match self {
@@ -337,7 +342,7 @@ impl StatementKind {
 impl StatementTree {
     /// An equal statement.
     #[cycle(copy_block)]
-    pub fn copy(&self, alloc: Global) -> Result<StatementTree, AllocError>
+    pub fn copy(&self, alloc: Global) -> Result<StatementTree, NoMemory>
         ensures { IfOk result (λ t. t ≡ self.now) }
     {
         Ok(StatementTree {
@@ -347,7 +352,7 @@ impl StatementTree {
     }
 }
 
-fn copy_variant(alloc: Global, variant: &Option<ExprTree>) -> Result<Option<ExprTree>, AllocError>
+fn copy_variant(alloc: Global, variant: &Option<ExprTree>) -> Result<Option<ExprTree>, NoMemory>
     ensures { IfOk result (λ t. t ≡ variant.now) }
 {
     match variant {
@@ -358,7 +363,7 @@ fn copy_variant(alloc: Global, variant: &Option<ExprTree>) -> Result<Option<Expr
 
 impl PairSource {
     /// An equal pair.
-    pub fn copy(&self, alloc: Global) -> Result<PairSource, AllocError>
+    pub fn copy(&self, alloc: Global) -> Result<PairSource, NoMemory>
         ensures { IfOk result (λ t. t ≡ self.now) }
     {
         Ok(PairSource {
@@ -370,7 +375,7 @@ impl PairSource {
     }
 }
 
-fn copy_pairs(alloc: Global, pairs: &[PairSource]) -> Result<Items<PairSource>, AllocError>
+fn copy_pairs(alloc: Global, pairs: &[PairSource]) -> Result<Items<PairSource>, NoMemory>
     ensures { IfOk result (λ all. all ≡ pairs.now) }
 {
     let mut all = Items::new(alloc);
@@ -380,7 +385,7 @@ fn copy_pairs(alloc: Global, pairs: &[PairSource]) -> Result<Items<PairSource>, 
     Ok(all)
 }
 
-fn copy_result(alloc: Global, kind: &Option<TypeTree>) -> Result<Option<TypeTree>, AllocError>
+fn copy_result(alloc: Global, kind: &Option<TypeTree>) -> Result<Option<TypeTree>, NoMemory>
     ensures { IfOk result (λ t. t ≡ kind.now) }
 {
     match kind {
@@ -391,7 +396,7 @@ fn copy_result(alloc: Global, kind: &Option<TypeTree>) -> Result<Option<TypeTree
 
 impl MethodSource {
     /// An equal method.
-    pub fn copy(&self, alloc: Global) -> Result<MethodSource, AllocError>
+    pub fn copy(&self, alloc: Global) -> Result<MethodSource, NoMemory>
         ensures { IfOk result (λ t. t ≡ self.now) }
     {
         Ok(MethodSource {

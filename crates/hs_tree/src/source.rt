@@ -4,8 +4,9 @@ use crate::formula::{DisjunctTree, FormulaTree};
 use crate::ident::{Ident, copy_idents};
 use crate::item::{ItemTree, copy_items};
 use crate::method::{MethodSource, ParamTree, copy_params};
+use hs_text::NoMemory;
 use sqlite_items::Items;
-use std::alloc::{AllocError, Global};
+use std::alloc::Global;
 
 /// A whole source.
 #[derive(Drop)]
@@ -65,7 +66,7 @@ pub struct LemmaTree {
 
 impl DataTree {
     /// An equal data type.
-    pub fn copy(&self, alloc: Global) -> Result<DataTree, AllocError>
+    pub fn copy(&self, alloc: Global) -> Result<DataTree, NoMemory>
         ensures { IfOk result (λ t. t ≡ self.now) }
     {
         Ok(DataTree {
@@ -79,7 +80,7 @@ impl DataTree {
 fn copy_inv(
     alloc: Global,
     inv: &Option<Items<ItemTree>>,
-) -> Result<Option<Items<ItemTree>>, AllocError>
+) -> Result<Option<Items<ItemTree>>, NoMemory>
     ensures { IfOk result (λ t. t ≡ inv.now) }
 {
     match inv {
@@ -90,7 +91,7 @@ fn copy_inv(
 
 impl PredTree {
     /// An equal predicate.
-    pub fn copy(&self, alloc: Global) -> Result<PredTree, AllocError>
+    pub fn copy(&self, alloc: Global) -> Result<PredTree, NoMemory>
         ensures { IfOk result (λ t. t ≡ self.now) }
     {
         Ok(PredTree {
@@ -105,7 +106,7 @@ impl PredTree {
 
 impl EntailTree {
     /// An equal entailment.
-    pub fn copy(&self, alloc: Global) -> Result<EntailTree, AllocError>
+    pub fn copy(&self, alloc: Global) -> Result<EntailTree, NoMemory>
         ensures { IfOk result (λ t. t ≡ self.now) }
     {
         Ok(EntailTree {
@@ -118,7 +119,7 @@ impl EntailTree {
 
 impl LemmaTree {
     /// An equal lemma.
-    pub fn copy(&self, alloc: Global) -> Result<LemmaTree, AllocError>
+    pub fn copy(&self, alloc: Global) -> Result<LemmaTree, NoMemory>
         ensures { IfOk result (λ t. t ≡ self.now) }
     {
         Ok(LemmaTree {
@@ -133,7 +134,7 @@ impl LemmaTree {
 
 impl SourceItem {
     /// An equal declaration.
-    pub fn copy(&self, alloc: Global) -> Result<SourceItem, AllocError>
+    pub fn copy(&self, alloc: Global) -> Result<SourceItem, NoMemory>
         ensures { IfOk result (λ t. t ≡ self.now) }
     {
         match self {
@@ -146,7 +147,7 @@ impl SourceItem {
     }
 }
 
-fn copy_all(alloc: Global, items: &[SourceItem]) -> Result<Items<SourceItem>, AllocError>
+fn copy_all(alloc: Global, items: &[SourceItem]) -> Result<Items<SourceItem>, NoMemory>
     ensures { IfOk result (λ all. all ≡ items.now) }
 {
     let mut all = Items::new(alloc);
@@ -158,7 +159,7 @@ fn copy_all(alloc: Global, items: &[SourceItem]) -> Result<Items<SourceItem>, Al
 
 impl Source {
     /// An equal source.
-    pub fn copy(&self, alloc: Global) -> Result<Source, AllocError>
+    pub fn copy(&self, alloc: Global) -> Result<Source, NoMemory>
         ensures { IfOk result (λ t. t ≡ self.now) }
     {
         Ok(Source {

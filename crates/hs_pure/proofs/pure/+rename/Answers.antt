@@ -29,20 +29,20 @@ pub Pure::put_names-rename-requires-in-Le-2 : goal.Pure::put_names-rename-requir
 Pure::put_names-rename-requires-in-Le-2 t c =
     (le_range (renaming c.args.map.now) c.args.self.now c.in-Le.a c.in-Le.b c.in-Le.is c.requires).1
 
-pub Pure::put_names-rename-requires-in-BagEq : goal.Pure::put_names-rename-requires-in-BagEq
-Pure::put_names-rename-requires-in-BagEq t c =
+pub Pure::put_names-rename_two-requires-clause-first : goal.Pure::put_names-rename_two-requires-clause-first
+Pure::put_names-rename_two-requires-clause-first t c =
     (bag_eq_range (renaming c.args.map.now) c.args.self.now c.in-BagEq.a c.in-BagEq.b c.in-BagEq.is c.requires).0
 
-pub Pure::put_names-rename-requires-in-BagEq-2 : goal.Pure::put_names-rename-requires-in-BagEq-2
-Pure::put_names-rename-requires-in-BagEq-2 t c =
+pub Pure::put_names-rename_two-requires-clause-second : goal.Pure::put_names-rename_two-requires-clause-second
+Pure::put_names-rename_two-requires-clause-second t c =
     (bag_eq_range (renaming c.args.map.now) c.args.self.now c.in-BagEq.a c.in-BagEq.b c.in-BagEq.is c.requires).1
 
-pub Pure::put_names-rename-requires-in-Subset : goal.Pure::put_names-rename-requires-in-Subset
-Pure::put_names-rename-requires-in-Subset t c =
+pub Pure::put_names-rename_two-requires-in-Subset-clause-first : goal.Pure::put_names-rename_two-requires-in-Subset-clause-first
+Pure::put_names-rename_two-requires-in-Subset-clause-first t c =
     (subset_range (renaming c.args.map.now) c.args.self.now c.in-Subset.a c.in-Subset.b c.in-Subset.is c.requires).0
 
-pub Pure::put_names-rename-requires-in-Subset-2 : goal.Pure::put_names-rename-requires-in-Subset-2
-Pure::put_names-rename-requires-in-Subset-2 t c =
+pub Pure::put_names-rename_two-requires-in-Subset-clause-second : goal.Pure::put_names-rename_two-requires-in-Subset-clause-second
+Pure::put_names-rename_two-requires-in-Subset-clause-second t c =
     (subset_range (renaming c.args.map.now) c.args.self.now c.in-Subset.a c.in-Subset.b c.in-Subset.is c.requires).1
 
 pub Pure::put_names-rename-requires-in-Member : goal.Pure::put_names-rename-requires-in-Member
@@ -61,12 +61,12 @@ pub Pure::put_names-rename-requires-in-AllOf : goal.Pure::put_names-rename-requi
 Pure::put_names-rename-requires-in-AllOf t c =
     (all_of_range (renaming c.args.map.now) c.args.self.now c.in-AllOf.u c.in-AllOf.b c.in-AllOf.p c.in-AllOf.is c.requires).0
 
-pub Pure::put_names-put_names-requires : goal.Pure::put_names-put_names-requires
-Pure::put_names-put_names-requires t c =
+pub Pure::put_names-rename_boxed-requires : goal.Pure::put_names-rename_boxed-requires
+Pure::put_names-rename_boxed-requires t c =
     (search (rules, the_lemmas), subst (InRange (renaming c.args.map.now)) (sym c.get.ensures) ((all_of_range (renaming c.args.map.now) c.args.self.now c.in-AllOf.u c.in-AllOf.b c.in-AllOf.p c.in-AllOf.is c.requires).1))
 
-pub Pure::put_names-put_names-requires-in-Not : goal.Pure::put_names-put_names-requires-in-Not
-Pure::put_names-put_names-requires-in-Not t c =
+pub Pure::put_names-rename_boxed-requires-in-Not : goal.Pure::put_names-rename_boxed-requires-in-Not
+Pure::put_names-rename_boxed-requires-in-Not t c =
     (search (rules, the_lemmas), subst (InRange (renaming c.args.map.now)) (sym c.get-in-Not.ensures) (not_range (renaming c.args.map.now) c.args.self.now c.in-Not.p c.in-Not.is c.requires))
 
 pub Pure::put_names-rename_all-requires : goal.Pure::put_names-rename_all-requires
@@ -77,12 +77,12 @@ pub Pure::put_names-rename_all-requires-in-Or : goal.Pure::put_names-rename_all-
 Pure::put_names-rename_all-requires-in-Or t c =
     (search (rules, the_lemmas), subst (All (InRange (renaming c.args.map.now))) (sym c.as_slice-in-Or.ensures) (or_range (renaming c.args.map.now) c.args.self.now c.in-Or.ps c.in-Or.is c.requires))
 
-pub Pure::put_names-put_names-requires-in-Exists : goal.Pure::put_names-put_names-requires-in-Exists
-Pure::put_names-put_names-requires-in-Exists t c =
+pub Pure::put_names-rename_boxed-requires-in-Exists : goal.Pure::put_names-rename_boxed-requires-in-Exists
+Pure::put_names-rename_boxed-requires-in-Exists t c =
     (search (rules, the_lemmas), subst (InRange (renaming c.args.map.now)) (sym c.get-in-Exists.ensures) (exists_range (renaming c.args.map.now) c.args.self.now c.in-Exists.u c.in-Exists.p c.in-Exists.is c.requires))
 
-pub Pure::put_names-put_names-requires-in-Forall : goal.Pure::put_names-put_names-requires-in-Forall
-Pure::put_names-put_names-requires-in-Forall t c =
+pub Pure::put_names-rename_boxed-requires-in-Forall : goal.Pure::put_names-rename_boxed-requires-in-Forall
+Pure::put_names-rename_boxed-requires-in-Forall t c =
     (search (rules, the_lemmas), subst (InRange (renaming c.args.map.now)) (sym c.get-in-Forall.ensures) (forall_range (renaming c.args.map.now) c.args.self.now c.in-Forall.u c.in-Forall.p c.in-Forall.is c.requires))
 
 pub rename_all-put_names-requires : goal.rename_all-put_names-requires
