@@ -11,8 +11,8 @@ use Rattle.hs_tree.specs.declared.ident.Ident.{Ident}
 use Rattle.hs_numbering.specs.declared.fault.Problem.TheVariants.{Twice}
 use Rattle.hs_numbering.specs.declared.numbering.Numbering.{Numbering}
 use Rattle.hs_numbering.specs.Numbering.{blame_twice}
-use Rattle.hs_norm.specs.Names.{place}
-use Rattle.hs_norm.specs.Declaring.{is_other, blame_repeated_from, blame_repeated}
+use Rattle.hs_declared.specs.Names.{place}
+use Rattle.hs_declared.specs.Declaring.{is_other, blame_repeated_from, blame_repeated}
 use Rattle.hs_norm_sound.specs.Methods.{AreApart}
 use Rattle.hs_norm_sound.proofs.Passing.{KeepsFaults, blame_keeps, pure_keeps, joined, not_pushed}
 use Rattle.hs_norm_sound.proofs.Found.{none_before}

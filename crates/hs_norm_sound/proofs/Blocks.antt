@@ -30,11 +30,10 @@ use Rattle.hs_norm_formula.specs.declared.table.Entry.{Entry}
 use Rattle.hs_norm_formula.specs.Table.{entry}
 use Rattle.hs_norm_formula.specs.Formula.{blame_arity}
 use Rattle.hs_norm_formula.specs.Sum.{blame_kind}
-use Rattle.hs_norm.specs.declared.declarations.Declarations.{Declarations}
-use Rattle.hs_norm.specs.Names.{place, item_at}
-use Rattle.hs_norm.specs.Claim.{undeclared}
-use Rattle.hs_norm.specs.Types.{as_node, type_by}
-use Rattle.hs_norm.specs.Program.{Check, all, kind_locals, statement_locals, locals, is_before, part_weight, blame_heavy, call_by, node_by, optional, use_name, use_part, sum, expression_by, expression, call, value, test_kind, test, condition, local_type, statement_kind, statement, block}
+use Rattle.hs_declared.specs.declared.declarations.Declarations.{Declarations}
+use Rattle.hs_declared.specs.Names.{place, item_at}
+use Rattle.hs_declared.specs.Types.{undeclared, as_node, type_by}
+use Rattle.hs_norm_block.specs.Program.{Check, all, kind_locals, statement_locals, locals, is_before, part_weight, blame_heavy, call_by, node_by, optional, use_name, use_part, sum, expression_by, expression, call, value, test_kind, test, condition, local_type, statement_kind, statement, block}
 use Rattle.hs_norm_sound.specs.Uses.{Use, Name, Call, New, Number, part_uses, names_in, number_uses, call_uses, value_uses, optional_uses, test_kind_uses, condition_uses, test_uses, statement_kind_uses, statement_uses, block_uses}
 use Rattle.hs_norm_sound.specs.Uses as uses
 use Rattle.hs_norm_sound.proofs.Passing.{Passes, nothing_passes, blame_passes, both_pass, all_pass, each_passes, no_more}

@@ -23,13 +23,15 @@ use Rattle.hs_numbering.specs.Numbering.{start, next}
 use Rattle.hs_norm_formula.specs.declared.table.Entry.{Entry}
 use Rattle.hs_norm_formula.specs.Formula.{limit, formula}
 use Rattle.hs_norm.specs.declared.resolved.Resolved.{Resolved}
-use Rattle.hs_norm.specs.declared.resolved.Entailment.{Entailment}
-use Rattle.hs_norm.specs.Declaring.{entail_of, entries}
-use Rattle.hs_norm.specs.Claims.{is_open, opens_among, entailment}
+use Rattle.hs_norm_item.specs.declared.forms.Entailment.{Entailment}
+use Rattle.hs_declared.specs.Declaring.{entries}
+use Rattle.hs_norm.specs.Items.{entail_of}
+use Rattle.hs_norm_item.specs.Claims.{is_open, opens_among, entailment}
 use Rattle.hs_formula_fits.specs.Fits.{vars_of, free_vars, NamedFits, RiseAbove, IsSettled, Extends, EntriesFit}
 use Rattle.hs_formula_fits.specs.Laws.{FormulasFit}
 use Rattle.hs_formula_fits.proofs.State.{rise_above, is_in-append, neither, below_all, extends_later, free_more, in_free}
-use Rattle.hs_norm_sound.specs.Claims.{EntailmentIsNormal, IsWritten, HasDisjunct}
+use Rattle.hs_read.specs.Written.{IsWritten}
+use Rattle.hs_norm_sound.specs.Claims.{EntailmentIsNormal, HasDisjunct}
 use Rattle.hs_norm_sound.proofs.Passing.{zip_right}
 use Rattle.hs_norm_sound.proofs.Stays.{FaultsStay, limit_same}
 use Rattle.hs_norm_sound.proofs.Fixing.{Fixing, fixing_start}

@@ -17,9 +17,10 @@ use Rattle.hs_numbering.specs.Numbering.{each_counted, start}
 use Rattle.hs_norm_formula.specs.declared.table.Entry.{Entry}
 use Rattle.hs_norm_formula.specs.Formula.{limit, formula}
 use Rattle.hs_norm.specs.declared.resolved.Resolved.{Resolved}
-use Rattle.hs_norm.specs.Claim.{fix_self}
-use Rattle.hs_norm.specs.Declaring.{data_of, pred_of, entries, blame_repeated}
-use Rattle.hs_norm.specs.Definitions.{field, node, param, params, pred}
+use Rattle.hs_norm_item.specs.Claim.{fix_self}
+use Rattle.hs_declared.specs.Declaring.{entries, blame_repeated}
+use Rattle.hs_norm.specs.Items.{data_of, pred_of}
+use Rattle.hs_norm_item.specs.Definitions.{field, node, param, params, pred}
 use Rattle.hs_norm_sound.specs.Entries.{NodeIsOf, PredIsOf}
 use Rattle.hs_norm_sound.proofs.Passing.{zip_weaker, zip_maps, counted_all}
 use Rattle.hs_norm_sound.proofs.Stays.{FaultsStay, field_keeps, param_keeps, invariant_keeps}

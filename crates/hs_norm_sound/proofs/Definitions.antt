@@ -38,10 +38,11 @@ use Rattle.hs_norm_formula.specs.Table.{entry}
 use Rattle.hs_norm_formula.specs.Sum.{blame_kind}
 use Rattle.hs_norm_formula.specs.Formula.{blame_arity, limit, disjunct, formula}
 use Rattle.hs_norm.specs.declared.resolved.Resolved.{Resolved}
-use Rattle.hs_norm.specs.Names.{place}
-use Rattle.hs_norm.specs.Claim.{fix_self}
-use Rattle.hs_norm.specs.Declaring.{pred_of, lemma_of, entries, is_other, blame_repeated_from, blame_repeated}
-use Rattle.hs_norm.specs.Definitions.{param, params, invariant, pred, blame_param_kind, lemma_pred_of, lemma_pred_by, lemma_pred, lemma}
+use Rattle.hs_declared.specs.Names.{place}
+use Rattle.hs_norm_item.specs.Claim.{fix_self}
+use Rattle.hs_declared.specs.Declaring.{entries, is_other, blame_repeated_from, blame_repeated}
+use Rattle.hs_norm.specs.Items.{pred_of, lemma_of}
+use Rattle.hs_norm_item.specs.Definitions.{param, params, invariant, pred, blame_param_kind, lemma_pred_of, lemma_pred_by, lemma_pred, lemma}
 use Rattle.hs_formula_fits.specs.Fits.{vars_of, free_vars, IsSettled, Extends, EntriesFit}
 use Rattle.hs_formula_fits.specs.Laws.{ConjunctionFits, ConjunctionsFit, DisjunctsFit, FormulasFit}
 use Rattle.hs_pure.proofs.Views.{fold-And}

@@ -15,8 +15,9 @@ use Rattle.hs_heap.specs.Meaning.{pred_at}
 use Rattle.hs_heap.specs.Sound.{node_at, kinds, argument_kinds}
 use Rattle.hs_norm_formula.specs.declared.table.Entry.{Entry}
 use Rattle.hs_norm_formula.specs.Table.{entry, entry_at, place}
-use Rattle.hs_norm.specs.Declaring.{data_of, pred_of, entries_after, entries}
-use Rattle.hs_norm.specs.Types.{as_node, node_by}
+use Rattle.hs_declared.specs.Declaring.{entries_after, entries}
+use Rattle.hs_norm.specs.Items.{data_of, pred_of}
+use Rattle.hs_declared.specs.Types.{as_node, node_by}
 use Rattle.hs_formula_fits.specs.Fits.{EntriesFit}
 use Rattle.hs_norm_sound.specs.Entries.{NodeIsOf, PredIsOf}
 use Rattle.hs_norm_sound.proofs.Found.{found_at, get_all, some_eq}

@@ -10,8 +10,9 @@ use Rattle.hs_tree.specs.declared.source.SourceItem.TheVariants as item_of
 use Rattle.hs_heap.specs.declared.definitions.Lemma.{Lemma}
 use Rattle.hs_numbering.specs.declared.names.Names.{Names}
 use Rattle.hs_norm.specs.declared.resolved.Resolved.{Resolved}
-use Rattle.hs_norm.specs.Declaring.{data_of, pred_of, method_of, lemma_of, defined_name, method_name, lemma_name, entries}
-use Rattle.hs_norm.specs.Definitions.{lemma}
+use Rattle.hs_declared.specs.Declaring.{defined_name, method_name, lemma_name, entries}
+use Rattle.hs_norm.specs.Items.{data_of, pred_of, method_of, lemma_of}
+use Rattle.hs_norm_item.specs.Definitions.{lemma}
 use Rattle.hs_norm_sound.specs.Entries.{NodeIsOf, PredIsOf, DefinesSource}
 use Rattle.hs_norm_sound.specs.Methods.{AreApart, MethodIsDeclared}
 use Rattle.hs_norm_sound.proofs.Passing.{zip_maps}

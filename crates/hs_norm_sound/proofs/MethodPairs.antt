@@ -12,15 +12,17 @@ use Rattle.hs_numbering.specs.Names.{is_upper}
 use Rattle.hs_numbering.specs.Numbering.{each_counted}
 use Rattle.hs_norm_formula.specs.Formula.{limit}
 use Rattle.hs_norm.specs.declared.resolved.Param.{Param}
-use Rattle.hs_norm.specs.declared.resolved.PairTree.{PairTree}
+use Rattle.hs_norm_item.specs.declared.forms.PairTree.{PairTree}
 use Rattle.hs_norm.specs.declared.resolved.MethodTree.{MethodTree}
 use Rattle.hs_norm.specs.declared.resolved.Resolved.{Resolved}
-use Rattle.hs_norm.specs.Declaring.{method_of, entries}
-use Rattle.hs_norm.specs.Types.{optional_type}
-use Rattle.hs_norm.specs.Claims.{pair}
-use Rattle.hs_norm.specs.Normal.{method_param, declarations, method}
+use Rattle.hs_declared.specs.Declaring.{entries, declarations}
+use Rattle.hs_norm.specs.Items.{method_of}
+use Rattle.hs_declared.specs.Types.{optional_type}
+use Rattle.hs_norm_item.specs.Claims.{pair}
+use Rattle.hs_norm.specs.Normal.{method_param, method}
 use Rattle.hs_formula_fits.specs.Laws.{FormulasFit, NumbersFit}
-use Rattle.hs_norm_sound.specs.Claims.{PairIsNormal, IsWritten, HasDisjunct}
+use Rattle.hs_read.specs.Written.{IsWritten}
+use Rattle.hs_norm_sound.specs.Claims.{PairIsNormal, HasDisjunct}
 use Rattle.hs_norm_sound.proofs.Passing.{zip_right, counted_all, counted_keeps}
 use Rattle.hs_norm_sound.proofs.Stays.{FaultsStay, optional_type_keeps, pair_keeps}
 use Rattle.hs_norm_sound.proofs.Source.{Built, SourceBuilt, method_param_keeps, body_keeps}

@@ -26,12 +26,13 @@ use Rattle.hs_norm_formula.specs.Table.{entry}
 use Rattle.hs_norm_formula.specs.Formula.{limit}
 use Rattle.hs_norm_formula.specs.Sum.{blame_kind}
 use Rattle.hs_norm.specs.declared.resolved.Resolved.{Resolved}
-use Rattle.hs_norm.specs.Names.{place, item_at}
-use Rattle.hs_norm.specs.Declaring.{method_of, method_name, param_count, entries, blame_repeated}
-use Rattle.hs_norm.specs.Types.{as_node, type_of, type_by, optional_type}
-use Rattle.hs_norm.specs.Claims.{pair}
-use Rattle.hs_norm.specs.Program.{locals}
-use Rattle.hs_norm.specs.Normal.{method_param, own_names, declarations, method, body}
+use Rattle.hs_declared.specs.Names.{place, item_at}
+use Rattle.hs_declared.specs.Declaring.{method_name, param_count, entries, blame_repeated, declarations}
+use Rattle.hs_norm.specs.Items.{method_of}
+use Rattle.hs_declared.specs.Types.{as_node, type_of, type_by, optional_type}
+use Rattle.hs_norm_item.specs.Claims.{pair}
+use Rattle.hs_norm_block.specs.Program.{locals}
+use Rattle.hs_norm.specs.Normal.{method_param, own_names, method, body}
 use Rattle.hs_norm_sound.specs.Uses.{Use, Name, Call, New, Number, block_uses}
 use Rattle.hs_norm_sound.specs.Uses as uses
 use Rattle.hs_norm_sound.specs.Methods.{IsLightSum, KindIsThere, OptionIsThere, IsDeclared, ParamFits, MethodIsDeclared}

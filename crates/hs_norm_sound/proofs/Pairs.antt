@@ -25,9 +25,9 @@ use Rattle.hs_numbering.specs.Numbering.{each, fix, start, next, is_open, res_na
 use Rattle.hs_norm_formula.specs.declared.table.Entry.{Entry}
 use Rattle.hs_norm_formula.specs.Expr.{number}
 use Rattle.hs_norm_formula.specs.Formula.{limit, formula}
-use Rattle.hs_norm.specs.declared.resolved.PairTree.{PairTree}
-use Rattle.hs_norm.specs.Claim.{reserve, learn_res}
-use Rattle.hs_norm.specs.Claims.{variant, pair}
+use Rattle.hs_norm_item.specs.declared.forms.PairTree.{PairTree}
+use Rattle.hs_norm_item.specs.Claim.{reserve, learn_res}
+use Rattle.hs_norm_item.specs.Claims.{variant, pair}
 use Rattle.hs_formula_fits.specs.Fits.{vars_of, free_vars, NamedFits, IsSettled, Extends, EntriesFit, DisjunctIsNew}
 use Rattle.hs_formula_fits.specs.Laws.{FormulasFit, NumbersFit}
 use Rattle.hs_formula_fits.proofs.State.{rise_above, is_in-append, neither, above_all, below_all, in_right, named_later}

@@ -5,7 +5,7 @@ use Rattle.std.specs.List.{fold, flat_map, AllByRecursion, AllZip}
 use Rattle.hs_numbering.specs.declared.fault.Problem.{Problem}
 use Rattle.hs_numbering.specs.declared.numbering.Numbering.{Numbering}
 use Rattle.hs_numbering.specs.Numbering.{Builder, ◌>>=◌, ◌>>◌, ◌<$>◌, pure, blame, each, each_counted}
-use Rattle.hs_norm.specs.Program.{Check, all}
+use Rattle.hs_norm_block.specs.Program.{Check, all}
 
 -- ---- faults
 

@@ -1,5 +1,5 @@
 -- The parts of a source in normal form, each built with nothing blamed.
-use Rattle.std.proofs.Common.{◌≡◌, ℕ, List, [], map, Option, Some, None, Ok, is_some, refl, subst}
+use Rattle.std.proofs.Common.{◌≡◌, ℕ, List, [], map, Ok, is_some, refl, subst}
 use Rattle.std.specs.List.{AllZip, filter_map}
 use Rattle.hs_tree.specs.declared.ident.Ident.{Ident}
 use Rattle.hs_tree.specs.declared.method.ParamTree.{ParamTree}
@@ -10,7 +10,6 @@ use Rattle.hs_tree.specs.declared.source.SourceItem.{SourceItem}
 use Rattle.hs_heap.specs.declared.definitions.PredDef.{PredDef}
 use Rattle.hs_heap.specs.declared.definitions.Lemma.{Lemma}
 use Rattle.hs_numbering.specs.declared.names.Names.{Names}
-use Rattle.hs_numbering.specs.declared.fault.Fault.{Fault}
 use Rattle.hs_numbering.specs.declared.fault.Limit.TheVariants.{Params, Methods}
 use Rattle.hs_numbering.specs.declared.numbering.Numbering.{Numbering}
 use Rattle.hs_numbering.specs.declared.numbering.Reading.TheVariants.{Closed}
@@ -21,15 +20,16 @@ use Rattle.hs_numbering.proofs.Before.{least_is_first}
 use Rattle.hs_norm_formula.specs.declared.table.Entry.{Entry}
 use Rattle.hs_norm_formula.specs.Formula.{limit}
 use Rattle.hs_norm_formula.specs.Sum.{blame_kind}
-use Rattle.hs_norm_formula.specs.Numbered.{outcome}
-use Rattle.hs_norm.specs.declared.declarations.Declarations.{Declarations}
+use Rattle.hs_norm_formula.proofs.Answered.{outcome-Ok}
+use Rattle.hs_declared.specs.declared.declarations.Declarations.{Declarations}
 use Rattle.hs_norm.specs.declared.resolved.Resolved.{Resolved}
-use Rattle.hs_norm.specs.Declaring.{data_of, pred_of, entail_of, method_of, lemma_of, defined_name, method_name, lemma_name, entries, blame_repeated}
-use Rattle.hs_norm.specs.Types.{optional_type}
-use Rattle.hs_norm.specs.Definitions.{node, pred, lemma}
-use Rattle.hs_norm.specs.Claims.{entailment, pair}
-use Rattle.hs_norm.specs.Program.{block}
-use Rattle.hs_norm.specs.Normal.{method_param, own_names, declarations, method, body, blame_second, items_normal, normal_of}
+use Rattle.hs_declared.specs.Declaring.{defined_name, method_name, lemma_name, entries, blame_repeated, declarations, blame_second}
+use Rattle.hs_norm.specs.Items.{data_of, pred_of, entail_of, method_of, lemma_of}
+use Rattle.hs_declared.specs.Types.{optional_type}
+use Rattle.hs_norm_item.specs.Definitions.{node, pred, lemma}
+use Rattle.hs_norm_item.specs.Claims.{entailment, pair}
+use Rattle.hs_norm_block.specs.Program.{block}
+use Rattle.hs_norm.specs.Normal.{method_param, own_names, method, body, items_normal, normal_of}
 use Rattle.hs_norm_sound.proofs.Passing.{KeepsFaults, counted_keeps, counted_all}
 use Rattle.hs_norm_sound.proofs.Apart.{Pairs, Differ, repeated_keeps, repeated_apart}
 use Rattle.hs_norm_sound.proofs.Blocks.{block_passes}
@@ -122,12 +122,8 @@ module _ (stay : FaultsStay) where
         lemmas_built = all_built (lemma table) (lemma_keeps stay table) (filter_map lemma_of items) methods.1 e6;
       }
 
-  ok_of : (a r : Resolved) (o : Option Fault) → outcome o a ≡ Ok r → (o ≡ None) × (a ≡ r)
-  ok_of a r None e = (refl, cc)
-  ok_of a r (Some f) e = cc
-
   pub source_built : (source : Source) (r : Resolved) → normal_of source ≡ Ok r → SourceBuilt source.items r
   source_built source r e =
       let done = items_normal source.items (start Closed []) in
-      let is = ok_of done.0 r (least done.1.faults) e in
+      let is = outcome-Ok (least done.1.faults) done.0 r e in
       subst (SourceBuilt source.items) is.1 (items_built source.items ((least_is_first.none done.1.faults).0 is.0))

@@ -31,11 +31,11 @@ use Rattle.hs_norm_formula.specs.Sum.{blame_kind}
 use Rattle.hs_norm_formula.specs.Expr.{number}
 use Rattle.hs_norm_formula.specs.Item.{item, conjunction}
 use Rattle.hs_norm_formula.specs.Formula.{blame_arity, limit, disjunct, formula}
-use Rattle.hs_norm.specs.Claim.{fix_self, reserve, learn_res}
-use Rattle.hs_norm.specs.Declaring.{blame_repeated}
-use Rattle.hs_norm.specs.Types.{as_node, type_of, type_by, optional_type}
-use Rattle.hs_norm.specs.Definitions.{field, node, param, params, invariant, pred, blame_param_kind, lemma_pred_of, lemma_pred_by, lemma_pred, lemma}
-use Rattle.hs_norm.specs.Claims.{entailment, variant, pair}
+use Rattle.hs_norm_item.specs.Claim.{fix_self, reserve, learn_res}
+use Rattle.hs_declared.specs.Declaring.{blame_repeated}
+use Rattle.hs_declared.specs.Types.{as_node, type_of, type_by, optional_type}
+use Rattle.hs_norm_item.specs.Definitions.{field, node, param, params, invariant, pred, blame_param_kind, lemma_pred_of, lemma_pred_by, lemma_pred, lemma}
+use Rattle.hs_norm_item.specs.Claims.{entailment, variant, pair}
 use Rattle.hs_norm_sound.proofs.Passing.{KeepsFaults, pure_keeps, blame_keeps, each_keeps, counted_keeps, not_pushed}
 use Rattle.hs_norm_sound.proofs.Apart.{repeated_keeps}
 

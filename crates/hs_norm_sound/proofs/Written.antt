@@ -8,8 +8,8 @@ use Rattle.hs_tree.specs.declared.source.EntailTree.{EntailTree}
 use Rattle.hs_tree.specs.declared.source.Source.{Source}
 use Rattle.hs_tree.specs.declared.source.SourceItem.{SourceItem}
 use Rattle.hs_tree.specs.declared.source.SourceItem.TheVariants.{Node, Pred, Entail, Method, Lemma}
-use Rattle.hs_norm.specs.Declaring.{entail_of, method_of}
-use Rattle.hs_norm_sound.specs.Claims.{IsWritten, ItemIsWritten, HaveDisjuncts}
+use Rattle.hs_norm.specs.Items.{entail_of, method_of}
+use Rattle.hs_read.specs.Written.{IsWritten, ItemIsWritten, HaveDisjuncts}
 
 abbrev pub SidesWritten : EntailTree → Type 0
 SidesWritten c = IsWritten c.left × IsWritten c.right

@@ -1,10 +1,6 @@
 -- Entailments and pairs in normal form.
 use Rattle.std.specs.Prelude.{◌≡◌, ◌↔◌, ◌≤◌, ◌<◌, ◌+◌, ◌++◌, ℕ, zero, suc, false, IsTrue, List, [], ◌∷◌, length, Option, Some, None}
 use Rattle.std.specs.List.{All}
-use Rattle.hs_tree.specs.declared.formula.FormulaTree.{FormulaTree}
-use Rattle.hs_tree.specs.declared.source.Source.{Source}
-use Rattle.hs_tree.specs.declared.source.SourceItem.{SourceItem}
-use Rattle.hs_tree.specs.declared.source.SourceItem.TheVariants.{Node, Pred, Entail, Method, Lemma}
 use Rattle.hs_pure.specs.declared.var.Var.{Var}
 use Rattle.hs_pure.specs.declared.lin.Lin.{Lin}
 use Rattle.hs_pure.specs.Occurs.{in_lin}
@@ -14,8 +10,8 @@ use Rattle.hs_heap.specs.declared.definitions.Defs.{Defs}
 use Rattle.hs_heap.specs.Meaning.{is_in}
 use Rattle.hs_heap.specs.Variables.{is_free_in_formula}
 use Rattle.hs_heap.specs.Sound.{IsNumbered, AreAmong, AreDistinct, FormulaFits, IsShort}
-use Rattle.hs_norm.specs.declared.resolved.Entailment.{Entailment}
-use Rattle.hs_norm.specs.declared.resolved.PairTree.{PairTree}
+use Rattle.hs_norm_item.specs.declared.forms.Entailment.{Entailment}
+use Rattle.hs_norm_item.specs.declared.forms.PairTree.{PairTree}
 use Rattle.hs_formula_fits.specs.Fits.{RiseAbove}
 
 -- ---- entailments
@@ -72,22 +68,6 @@ pub record PairIsNormal (defs : Defs) (k : ℕ) (p : PairTree) : Type 0 where
   pub variant : VariantFits (param_vars k ++ p.logic) p.variant
 
 -- ---- disjuncts
-
--- a formula of the source with a disjunct
-abbrev pub IsWritten : FormulaTree → Type 0
-IsWritten f = 1 ≤ length f.cases
-
--- each formula of the item has one
-abbrev pub ItemIsWritten : SourceItem → Type 0
-ItemIsWritten (Node d) = Unit {0}
-ItemIsWritten (Pred p) = IsWritten p.body
-ItemIsWritten (Entail e) = IsWritten e.left × IsWritten e.right
-ItemIsWritten (Method m) = All (λ p. IsWritten p.pre × IsWritten p.post) m.pairs
-ItemIsWritten (Lemma l) = Unit {0}
-
--- each formula of the source has one
-abbrev pub HaveDisjuncts : Source → Type 0
-HaveDisjuncts source = All ItemIsWritten source.items
 
 -- the formula has a disjunct
 abbrev pub HasDisjunct : Formula → Type 0

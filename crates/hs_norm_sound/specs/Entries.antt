@@ -8,7 +8,8 @@ use Rattle.hs_heap.specs.declared.definitions.NodeDef.{NodeDef}
 use Rattle.hs_heap.specs.declared.definitions.PredDef.{PredDef}
 use Rattle.hs_heap.specs.Sound.{kinds}
 use Rattle.hs_norm.specs.declared.resolved.Resolved.{Resolved}
-use Rattle.hs_norm.specs.Declaring.{data_of, pred_of, entries}
+use Rattle.hs_declared.specs.Declaring.{entries}
+use Rattle.hs_norm.specs.Items.{data_of, pred_of}
 use Rattle.hs_formula_fits.specs.Fits.{EntriesFit}
 use Rattle.hs_norm_sound.specs.Methods.{AreApart}
 use Rattle.hs_numbering.specs.Names.{is_upper}

@@ -11,12 +11,12 @@ use Rattle.hs_tree.specs.declared.method.MethodSource.{MethodSource}
 use Rattle.hs_heap.specs.declared.definitions.NodeDef.{NodeDef}
 use Rattle.hs_heap.specs.declared.definitions.Defs.{Defs}
 use Rattle.hs_numbering.specs.Names.{is_upper}
-use Rattle.hs_norm.specs.declared.resolved.VarType.{VarType}
-use Rattle.hs_norm.specs.declared.resolved.VarType.TheVariants as kind
+use Rattle.hs_declared.specs.declared.types.VarType.{VarType}
+use Rattle.hs_declared.specs.declared.types.VarType.TheVariants as kind
 use Rattle.hs_norm.specs.declared.resolved.Param.{Param}
 use Rattle.hs_norm.specs.declared.resolved.MethodTree.{MethodTree}
 use Rattle.hs_norm.specs.Normal.{own_names}
-use Rattle.hs_norm.specs.Program.{part_weight}
+use Rattle.hs_norm_block.specs.Program.{part_weight}
 use Rattle.hs_norm_sound.specs.Uses.{Use, Name, Call, New, Kind, Number, block_uses}
 
 -- no two are equal

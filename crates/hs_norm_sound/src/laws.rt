@@ -24,7 +24,7 @@ pub fn goals_are_well_formed()
     ensures { GoalsAreWellFormed }
 {}
 
-/// Where each formula of the source has a disjunct, both sides of an entailment have one.
+/// Both sides of an entailment of a source that tokens spell have a disjunct.
 pub fn goals_have_disjuncts()
     ensures { GoalsHaveDisjuncts }
 {}
@@ -35,7 +35,7 @@ pub fn pairs_are_normal()
     ensures { PairsAreNormal }
 {}
 
-/// Where each formula of the source has a disjunct, both formulas of a pair have one.
+/// Both formulas of a pair of a source that tokens spell have a disjunct.
 pub fn pairs_have_disjuncts()
     ensures { PairsHaveDisjuncts }
 {}

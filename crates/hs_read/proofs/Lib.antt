@@ -8,3 +8,4 @@ pub mod TestFull
 pub mod StatementFull
 pub mod DeclareFull
 pub mod Unique
+pub mod Written

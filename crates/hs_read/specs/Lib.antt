@@ -3,3 +3,4 @@ pub mod Statement
 pub mod Declare
 pub mod Grammar
 pub mod Laws
+pub mod Written

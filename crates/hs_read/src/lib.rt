@@ -29,5 +29,5 @@ pub use hs_tree::{
     StatementTree, TestKind, TestTree, TypeTree, ValueTree,
 };
 pub use hs_words::{ReadError, What};
-pub use laws::{sources_are_read, sources_are_unique};
+pub use laws::{sources_are_read, sources_are_unique, sources_have_disjuncts};
 pub use sources::read;

@@ -5,6 +5,7 @@ ghost use Rattle.std.specs.List.{AllByRecursion};
 ghost use Rattle.hs_lex.specs.Tokens.{IsSpan};
 ghost use Rattle.hs_words.specs.Grammar.{Spells};
 ghost use Rattle.hs_words.specs.Input.{Gives, Reads, whole};
+ghost use Rattle.hs_read.specs.Written.{HaveDisjuncts};
 ghost use Rattle.hs_read.specs.Declare as spec;
 ghost use Rattle.hs_read.specs.Grammar.{IsSource};
 
@@ -75,13 +76,15 @@ fn all(alloc: Global, tokens: &[Token], text: &str) -> Result<Source, ReadError>
 ///
 /// The error is at the token at which reading stops, at the text's end where it needs one more token, at
 /// the token that opens a level too many, or `Memory`.
-#[tactic(auto, using(crate::proofs::Found::source_found))]
+#[tactic(auto, using(crate::proofs::Found::source_found, crate::proofs::Written::source_written))]
 pub fn read(alloc: Global, tokens: &[Token], text: &str) -> Result<Source, ReadError>
     requires len { length text.now < 2 ^ 32 }
     requires tokens { AllByRecursion (IsSpan text.now) tokens.now }
 
     // The grammar spells the tree by these tokens.
     ensures found { IfOk result (Spells (IsSource 64) text.now tokens.now) }
+    // Each formula of it has a disjunct.
+    ensures written { IfOk result HaveDisjuncts }
     // The tree, or the place at which reading stops.
     ensures exact { Gives (λ tree. tree) result (whole (spec.source 64) text.now tokens.now) }
 {
