@@ -1,5 +1,5 @@
 -- Each entailment of a source that is served is a claim.
-use Rattle.std.proofs.Common.{◌≡◌, ℕ, true, List, [], ◌∷◌, ◌++◌, length, Option, None, Some, Result, Ok, Err, refl, ap, subst, ◌∙◌}
+use Rattle.std.proofs.Common.{◌≡◌, ℕ, true, List, [], ◌∷◌, ◌++◌, length, Some, refl, ap, subst, ◌∙◌}
 use Rattle.std.specs.List.{All, AllByRecursion, fold, filter_map, list_all}
 use Rattle.std.proofs.lemmas.Bool.{and_parts}
 use Rattle.std.proofs.lemmas.List.Elements.{All-from_recursion}
@@ -10,22 +10,21 @@ use Rattle.hs_points.specs.declared.claim.Side.{Side}
 use Rattle.hs_points.specs.declared.claim.Claim.{Claim}
 use Rattle.hs_points.specs.Formulas.{formula_of}
 use Rattle.hs_points_formulas.specs.Sides.{side_in, SidesAreFormulas}
-use Rattle.hs_numbering.specs.declared.fault.Fault.{Fault}
 use Rattle.hs_numbering.specs.declared.fault.Limit.TheVariants.{Entailments}
 use Rattle.hs_numbering.specs.declared.numbering.Numbering.{Numbering}
 use Rattle.hs_numbering.specs.declared.numbering.Reading.TheVariants.{Open, Closed}
 use Rattle.hs_numbering.specs.Numbering.{Builder, start, each_counted}
 use Rattle.hs_numbering.specs.Least.{least}
 use Rattle.hs_norm_formula.specs.declared.table.Entry.{Entry}
-use Rattle.hs_norm_formula.specs.declared.by_number.NormError.{NormError}
 use Rattle.hs_norm_formula.specs.Formula.{limit, formula}
-use Rattle.hs_norm_formula.specs.Numbered.{outcome}
-use Rattle.hs_norm.specs.declared.resolved.Entailment.{Entailment}
+use Rattle.hs_norm_formula.proofs.Answered.{outcome-Ok}
+use Rattle.hs_norm_item.specs.declared.forms.Entailment.{Entailment}
 use Rattle.hs_norm.specs.declared.resolved.Resolved.{Resolved}
-use Rattle.hs_norm.specs.Declaring.{data_of, pred_of, entail_of, entries}
-use Rattle.hs_norm.specs.Definitions.{node, pred}
-use Rattle.hs_norm.specs.Claims.{entailment}
-use Rattle.hs_norm.specs.Normal.{blame_second, items_normal}
+use Rattle.hs_declared.specs.Declaring.{entries, blame_second}
+use Rattle.hs_norm.specs.Items.{data_of, pred_of, entail_of}
+use Rattle.hs_norm_item.specs.Definitions.{node, pred}
+use Rattle.hs_norm_item.specs.Claims.{entailment}
+use Rattle.hs_norm.specs.Normal.{items_normal}
 use Rattle.hs_built.specs.Built.{is_side, is_claim, is_served}
 use Rattle.hs_built.specs.Claims.{between, claim_in}
 use Rattle.hs_built.specs.Laws.{BuiltSourcesHaveClaims}
@@ -68,14 +67,6 @@ module _ (again : (side : Side) → side_in (formula_of side) ≡ Some side) whe
 
 -- ---- sources
 
-abbrev built_value : Resolved → Result Resolved NormError → Resolved
-built_value d (Ok r) = r
-built_value d (Err e) = d
-
-pub outcome_is : (o : Option Fault) (a r : Resolved) → outcome o a ≡ Ok r → a ≡ r
-outcome_is None a r e = ap (built_value a) e
-outcome_is (Some f) a r e = absurd cc
-
 module _ (items : List SourceItem) where
   abbrev after_second : Numbering
   after_second = (blame_second items (start Closed [])).1
@@ -89,6 +80,6 @@ module _ (items : List SourceItem) where
 
 pub built_sources_have_claims : SidesAreFormulas → BuiltSourcesHaveClaims
 built_sources_have_claims sides tree r h e =
-    let same = outcome_is (least (items_normal tree.items (start Closed [])).1.faults) (items_normal tree.items (start Closed [])).0 r e in
+    let same = (outcome-Ok (least (items_normal tree.items (start Closed [])).1.faults) (items_normal tree.items (start Closed [])).0 r e).1 in
     let all = counted_from IsClaim (entailment (entries tree.items)) (filter_map entail_of tree.items) [] (after_preds tree.items) (entailments_are sides.again (entries tree.items) tree.items h) tt in
     subst (λ (x : Resolved). All IsClaim x.entailments) same (All-from_recursion IsClaim (items_normal tree.items (start Closed [])).0.entailments all)

@@ -38,18 +38,19 @@ use Rattle.hs_numbering.specs.declared.numbering.Numbering.{Numbering}
 use Rattle.hs_numbering.specs.declared.numbering.Reading.TheVariants.{Closed}
 use Rattle.hs_numbering.specs.Numbering.{start, each_counted}
 use Rattle.hs_numbering.specs.Least.{least}
-use Rattle.hs_norm.specs.declared.resolved.Entailment.{Entailment}
+use Rattle.hs_norm_item.specs.declared.forms.Entailment.{Entailment}
 use Rattle.hs_norm.specs.declared.resolved.Resolved.{Resolved}
-use Rattle.hs_norm.specs.Declaring.{data_of, pred_of, entries}
-use Rattle.hs_norm.specs.Definitions.{node, pred}
-use Rattle.hs_norm.specs.Normal.{blame_second, items_normal, normal_of}
+use Rattle.hs_declared.specs.Declaring.{entries, blame_second}
+use Rattle.hs_norm.specs.Items.{data_of, pred_of}
+use Rattle.hs_norm_item.specs.Definitions.{node, pred}
+use Rattle.hs_norm.specs.Normal.{items_normal, normal_of}
 use Rattle.hs_formula_fits.specs.Fits.{RiseAbove}
 use Rattle.hs_norm_sound.specs.Claims.{EntailmentIsNormal}
 use Rattle.hs_norm_sound.specs.Laws.{GoalsAreWellFormed}
 use Rattle.hs_points_formulas.specs.Sides.{side_in, SidesAreFormulas}
 use Rattle.hs_built.specs.Built.{is_built, is_served, is_claim}
 use Rattle.hs_built.specs.Claims.{between, claim_in}
-use Rattle.hs_built.proofs.Entailments.{outcome_is}
+use Rattle.hs_norm_formula.proofs.Answered.{outcome-Ok}
 
 -- ---- predicates of a source that is built
 
@@ -70,7 +71,7 @@ module _ (items : List SourceItem) where
 
 pub no_preds : (tree : Source) (r : Resolved) → is_built tree ≡ true → normal_of tree ≡ Ok r → r.defs.preds ≡ []
 no_preds tree r b e =
-    let built = outcome_is (least (items_normal tree.items (start Closed [])).1.faults) (items_normal tree.items (start Closed [])).0 r e in
+    let built = (outcome-Ok (least (items_normal tree.items (start Closed [])).1.faults) (items_normal tree.items (start Closed [])).0 r e).1 in
     sym (ap (λ (x : Resolved). x.defs.preds) built) ∙ preds_empty tree.items b
 
 -- ---- variables

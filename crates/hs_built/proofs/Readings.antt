@@ -23,6 +23,7 @@ use Rattle.hs_pure.specs.declared.pure.Pure.TheVariants as pure_of
 use Rattle.hs_pure.proofs.Views.{fold-Eq}
 use Rattle.hs_heap.specs.declared.formula.Disjunct.{Disjunct}
 use Rattle.hs_heap.specs.declared.formula.Formula.{Formula}
+use Rattle.hs_heap.specs.WellFormed.{is_and, is_and_level}
 use Rattle.hs_points.specs.declared.claim.Term.{Term}
 use Rattle.hs_points.specs.declared.claim.Term.TheVariants.{Null, Name}
 use Rattle.hs_points.specs.declared.claim.Equation.{Equation}
@@ -37,7 +38,7 @@ use Rattle.hs_norm_formula.specs.declared.sum.Term.{Term as Addend}
 use Rattle.hs_norm_formula.specs.Sum.{number_var, allowed, or_shape, sum}
 use Rattle.hs_norm_formula.specs.Expr.{Readings, names_bag, name_of, number, is_bag}
 use Rattle.hs_norm_formula.specs.Item.{Inner, kind_level, tree_level, pure_level, item, relation, blame_shape, of_bags, of_numbers, all_of}
-use Rattle.hs_norm_formula.specs.Splice.{conjuncts, and_level, is_and, conjuncts_of}
+use Rattle.hs_norm_formula.specs.Splice.{conjuncts, conjuncts_of}
 use Rattle.hs_norm_formula.specs.Formula.{limit, counted_atom, disjunct, formula}
 use Rattle.hs_norm_formula.proofs.Splicing.{conjuncts-alone}
 use Rattle.hs_built.specs.Built.{is_term_part, is_term, is_equality, is_equation_kind, is_equation, is_atom, binds_nothing, is_case, is_one_case, is_side}
@@ -173,7 +174,7 @@ items_give : (is : List ItemTree) → list_all is_equation is ≡ true → Gives
 items_give is h = each_gives IsEquality (λ (i : Inner). i false) (map item is) (every_item is h)
 
 conjuncts-equality : (p : Pure) (e : Equation) → p ≡ formulas.pure_of e → conjuncts p ≡ formulas.pure_of e ∷ []
-conjuncts-equality p e is = conjuncts-alone p (ap is_and is ∙ fold-Eq and_level (formulas.lin_of e.left) (formulas.lin_of e.right)) ∙ ap (λ q. q ∷ []) is
+conjuncts-equality p e is = conjuncts-alone p (ap is_and is ∙ fold-Eq is_and_level (formulas.lin_of e.left) (formulas.lin_of e.right)) ∙ ap (λ q. q ∷ []) is
 
 conjuncts_are : (ps : List Pure) → AllByRecursion IsEquality ps → (es : List Equation) × (flat_map conjuncts ps ≡ map formulas.pure_of es)
 conjuncts_are [] h = ([], refl)

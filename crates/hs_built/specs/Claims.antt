@@ -4,7 +4,7 @@ use Rattle.hs_pure.specs.declared.var.Var.{Var}
 use Rattle.hs_points.specs.declared.claim.Side.{Side}
 use Rattle.hs_points.specs.declared.claim.Claim.{Claim}
 use Rattle.hs_points_formulas.specs.Sides.{side_in}
-use Rattle.hs_norm.specs.declared.resolved.Entailment.{Entailment}
+use Rattle.hs_norm_item.specs.declared.forms.Entailment.{Entailment}
 
 abbrev pub between : List Var → ℕ → Option Side → Option Side → Option Claim
 between opens next (Some left) (Some right) = Some (record { left = left; right = right; opens = opens; next = next })

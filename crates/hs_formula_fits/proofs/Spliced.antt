@@ -8,29 +8,9 @@ use Rattle.hs_pure.specs.declared.pure.Pure.TheOpen.{Pure-F}
 use Rattle.hs_pure.specs.declared.pure.Pure.TheVariants as pure_of
 use Rattle.hs_heap.specs.WellFormed.{is_and, is_and_level}
 use Rattle.hs_numbering.specs.declared.numbering.Numbering.{Numbering}
-use Rattle.hs_norm_formula.specs.Splice.{conjuncts, and_level}
-use Rattle.hs_norm_formula.specs.Splice as splice
+use Rattle.hs_norm_formula.specs.Splice.{conjuncts}
 use Rattle.hs_norm_formula.proofs.Splicing.{conjuncts-And, conjuncts-alone, conjuncts_are_spliced}
 use Rattle.hs_formula_fits.proofs.Formed.{FormedIn, members_formed}
-
--- both tests are one
-levels : (x : Pure-F Pure) → is_and_level (map-Pure Pure Bool is_and x) ≡ and_level (map-Pure Pure Bool splice.is_and x)
-levels (Pure-F.Eq a b) = refl
-levels (Pure-F.Lt a b) = refl
-levels (Pure-F.Le a b) = refl
-levels (Pure-F.Divides d a) = refl
-levels (Pure-F.BagEq a b) = refl
-levels (Pure-F.Subset a b) = refl
-levels (Pure-F.Member a b) = refl
-levels (Pure-F.AllOf u b p) = refl
-levels (Pure-F.Not p) = refl
-levels (Pure-F.And ps) = refl
-levels (Pure-F.Or ps) = refl
-levels (Pure-F.Exists u p) = refl
-levels (Pure-F.Forall u p) = refl
-
-same_and : (p : Pure) → is_and p ≡ splice.is_and p
-same_and = ind-Pure (λ p. is_and p ≡ splice.is_and p) (λ x y is. fold-roll-Pure Bool is_and_level x ∙ levels x ∙ sym (fold-roll-Pure Bool and_level x))
 
 module _ (i : Bool) (k : ℕ) (m : Numbering) (s : Var → Bool) where
   abbrev Formed : Pure → Type 0
@@ -42,8 +22,8 @@ module _ (i : Bool) (k : ℕ) (m : Numbering) (s : Var → Bool) where
   abbrev Known : Type 0
   Known = (p : Pure) × Parted p
 
-  alone : (x : Pure-F Pure) → and_level (map-Pure Pure Bool splice.is_and x) ≡ false → Parted (roll-Pure x)
-  alone x e f = subst (All Formed) (sym (conjuncts-alone (roll-Pure x) (fold-roll-Pure Bool and_level x ∙ e))) (All-cons Formed (roll-Pure x) [] f (All-nil Formed))
+  alone : (x : Pure-F Pure) → is_and_level (map-Pure Pure Bool is_and x) ≡ false → Parted (roll-Pure x)
+  alone x e f = subst (All Formed) (sym (conjuncts-alone (roll-Pure x) (fold-roll-Pure Bool is_and_level x ∙ e))) (All-cons Formed (roll-Pure x) [] f (All-nil Formed))
 
   each_parted : (ks : List Known) → All Formed (map (λ (e : Known). e.0) ks) → All Formed (flat_map conjuncts (map (λ (e : Known). e.0) ks))
   each_parted [] h = All-nil Formed
@@ -78,4 +58,4 @@ module _ (i : Bool) (k : ℕ) (m : Numbering) (s : Var → Bool) where
   spliced_formed (p ∷ ps) h = All-append Conjunct (conjuncts p) (flat_map conjuncts ps) (one p (All-head Formed p ps h)) (spliced_formed ps (All-tail Formed p ps h))
     where
       one : (p : Pure) → Formed p → All Conjunct (conjuncts p)
-      one p f j d less = (parted p f j d less, same_and _ ∙ conjuncts_are_spliced.none_left p j d less)
+      one p f j d less = (parted p f j d less, conjuncts_are_spliced.none_left p j d less)

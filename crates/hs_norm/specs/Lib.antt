@@ -1,8 +1,2 @@
-pub mod Names
-pub mod Claim
-pub mod Declaring
-pub mod Types
-pub mod Definitions
-pub mod Claims
-pub mod Program
+pub mod Items
 pub mod Normal

@@ -19,12 +19,13 @@ use Rattle.hs_norm_formula.specs.Numbered.{answer}
 use Rattle.hs_norm.specs.declared.resolved.Param.{Param}
 use Rattle.hs_norm.specs.declared.resolved.MethodTree.{MethodTree}
 use Rattle.hs_norm.specs.declared.resolved.Resolved.{Resolved}
-use Rattle.hs_norm.specs.Declaring.{data_of, pred_of, entail_of, method_of, lemma_of, defined_name, method_name, lemma_name, param_count, entries, blame_repeated}
-use Rattle.hs_norm.specs.Types.{type_of, optional_type}
-use Rattle.hs_norm.specs.Definitions.{node, pred, lemma}
-use Rattle.hs_norm.specs.Claims.{entailment, pair}
-use Rattle.hs_norm.specs.Program.{block, locals}
-use Rattle.hs_norm.specs.declared.declarations.Declarations.{Declarations}
+use Rattle.hs_declared.specs.Declaring.{declarations, blame_repeated, blame_second}
+use Rattle.hs_norm.specs.Items.{data_of, pred_of, entail_of, method_of, lemma_of}
+use Rattle.hs_declared.specs.Types.{type_of, optional_type}
+use Rattle.hs_norm_item.specs.Definitions.{node, pred, lemma}
+use Rattle.hs_norm_item.specs.Claims.{entailment, pair}
+use Rattle.hs_norm_block.specs.Program.{block, locals}
+use Rattle.hs_declared.specs.declared.declarations.Declarations.{Declarations}
 
 abbrev pub method_param : List Entry → ℕ → ParamTree → Builder Param
 method_param entries count p = do
@@ -36,14 +37,6 @@ method_param entries count p = do
 -- the parameters, and the locals of the block
 abbrev pub own_names : MethodSource → List Ident
 own_names m = map (λ p. p.name) m.params ++ locals m.block
-
--- what a source declares
-abbrev pub declarations : List SourceItem → Declarations
-declarations items = record {
-  table = entries items;
-  methods = filter_map method_name items;
-  counts = filter_map param_count items;
-}
 
 -- its names are declared once, and it uses what is declared
 abbrev pub body : Declarations → MethodSource → Builder (Unit {0})
@@ -65,21 +58,14 @@ abbrev pub add_some : {A B : Type 0} → (ℕ → A → Builder B) → Option A 
 add_some f None done = done
 add_some f (Some x) done = (done.0 ++ (f (length done.0) x done.1).0 ∷ [], (f (length done.0) x done.1).1)
 
--- names are declared once in their space: data types and predicates, methods, lemmas
-abbrev pub blame_second : List SourceItem → Builder (Unit {0})
-blame_second items = do
-  blame_repeated (filter_map defined_name items)
-  blame_repeated (filter_map method_name items)
-  blame_repeated (filter_map lemma_name items)
-
-abbrev pub items_normal : List SourceItem → Builder Resolved
-items_normal items = do
-  blame_second items
-  nodes ← each_counted (node (entries items)) (filter_map data_of items)
-  preds ← each_counted (pred (entries items)) (filter_map pred_of items)
-  entailments ← each_counted (entailment (entries items)) (filter_map entail_of items)
-  methods ← each_counted (method (declarations items)) (filter_map method_of items)
-  lemmas ← each_counted (lemma (entries items)) (filter_map lemma_of items)
+-- over these declarations
+abbrev pub parts_normal : Declarations → List SourceItem → Builder Resolved
+parts_normal d items = do
+  nodes ← each_counted (node d.table) (filter_map data_of items)
+  preds ← each_counted (pred d.table) (filter_map pred_of items)
+  entailments ← each_counted (entailment d.table) (filter_map entail_of items)
+  methods ← each_counted (method d) (filter_map method_of items)
+  lemmas ← each_counted (lemma d.table) (filter_map lemma_of items)
   pure (record {
     defs = record { nodes = nodes; preds = map (λ p. p.0) preds; lemmas = map (λ l. l.0) lemmas };
     pred_names = map (λ p. p.1) preds;
@@ -87,6 +73,11 @@ items_normal items = do
     methods = methods;
     lemma_names = map (λ l. l.1) lemmas;
   })
+
+abbrev pub items_normal : List SourceItem → Builder Resolved
+items_normal items = do
+  blame_second items
+  parts_normal (declarations items) items
 
 -- what is built, or the first fault
 abbrev pub normal_of : Source → Result Resolved NormError

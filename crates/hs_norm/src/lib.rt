@@ -4,21 +4,14 @@
 //! answers what that function builds, or the first fault in the order of the text.
 #![tactic(auto)]
 
-mod block;
-mod claim;
-mod claims;
-mod declarations;
-mod declared;
-mod definitions;
-mod directory;
-mod locals;
+mod methods;
 mod resolved;
 mod shared;
 mod source;
-mod table;
-mod types;
 
+pub use hs_declared::VarType;
 pub use hs_norm_formula::{NormError, numbered};
+pub use hs_norm_item::{Entailment, PairTree};
 pub use hs_numbering::{Limit, Names};
-pub use resolved::{Entailment, MethodTree, PairTree, Param, Resolved, VarType};
+pub use resolved::{MethodTree, Param, Resolved};
 pub use source::normal;

@@ -1,11 +1,8 @@
-use crate::{Entailment, PairTree, Param, VarType};
+use crate::Param;
 
 fn is_shared<T: Send + Sync>() {}
 
-// Each type of this crate may go to another thread and be read by several.
-fn normal_forms_are_shared() {
-    is_shared::<VarType>();
+// The parameter of a method may go to another thread and be read by several.
+fn params_are_shared() {
     is_shared::<Param>();
-    is_shared::<Entailment>();
-    is_shared::<PairTree>();
 }

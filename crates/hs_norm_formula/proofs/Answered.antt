@@ -1,5 +1,5 @@
 -- What is answered of what was built.
-use Rattle.std.proofs.Common.{◌≡◌, List, [], Result, ap, ◌∙◌, subst}
+use Rattle.std.proofs.Common.{◌≡◌, List, [], Option, None, Some, Result, Ok, refl, ap, ◌∙◌, subst}
 use Rattle.hs_tree.specs.declared.formula.FormulaTree.{FormulaTree}
 use Rattle.hs_heap.specs.declared.formula.Formula.{Formula}
 use Rattle.hs_heap.specs.declared.definitions.Defs.{Defs}
@@ -11,6 +11,11 @@ use Rattle.hs_numbering.specs.Numbering.{start}
 use Rattle.hs_norm_formula.specs.declared.by_number.NormError.{NormError}
 use Rattle.hs_norm_formula.specs.Formula.{formula}
 use Rattle.hs_norm_formula.specs.Numbered.{Gives, answer, outcome, entries_of, numbered}
+
+-- what is answered is what was built, and there is no fault
+pub outcome-Ok : {A : Type 0} (o : Option Fault) (a r : A) → outcome o a ≡ Ok r → (o ≡ None) × (a ≡ r)
+outcome-Ok None a r e = (refl, cc)
+outcome-Ok (Some f) a r e = cc
 
 -- of a pair and its faults
 pub gives_answer : {A : Type 0} (built : A × Numbering) (a : A) (n : Numbering) (faults : List Fault) (r : Result A NormError) → (a, n) ≡ built → faults ≡ n.faults → Gives (outcome (least faults) a) r → Gives (answer built) r

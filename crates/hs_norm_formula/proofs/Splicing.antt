@@ -8,8 +8,9 @@ use Rattle.hs_pure.specs.declared.pure.Pure.TheOpen.{Pure-F}
 use Rattle.hs_pure.specs.declared.pure.Pure.TheVariants as pure_of
 use Rattle.hs_pure.proofs.Levels.{map_Pure-map_Pure}
 use Rattle.hs_pure.proofs.Views.{fold-And}
+use Rattle.hs_heap.specs.WellFormed.{is_and, is_and_level}
 use Rattle.hs_norm_formula.specs.Laws.{ConjunctsAreSpliced}
-use Rattle.hs_norm_formula.specs.Splice.{members, split_level, conjuncts, and_level, is_and}
+use Rattle.hs_norm_formula.specs.Splice.{members, split_level, conjuncts}
 
 abbrev Split : Type 0
 Split = Pure × List Pure
@@ -73,7 +74,7 @@ conjuncts-other = ind-Pure Other (λ x y is. other_roll x)
 
 -- a formula that is no "and" by test
 pub conjuncts-alone : (p : Pure) → is_and p ≡ false → conjuncts p ≡ p ∷ []
-conjuncts-alone p e = conjuncts-other p (λ ps is. true≢false (sym (fold-And and_level ps) ∙ sym (ap is_and is) ∙ e))
+conjuncts-alone p e = conjuncts-other p (λ ps is. true≢false (sym (fold-And is_and_level ps) ∙ sym (ap is_and is) ∙ e))
 
 pub and_case : (p : Pure) (ps : List Pure) (old : List Pure) → p ≡ pure_of.And ps → old ++ flat_map conjuncts ps ≡ old ++ conjuncts p
 and_case p ps old e = ap (λ xs. old ++ xs) (sym (ap conjuncts e ∙ conjuncts-And ps))
@@ -86,9 +87,9 @@ Alone p = is_and p ≡ false
 abbrev Cleared : Type 0
 Cleared = (p : Pure) × All Alone (conjuncts p)
 
-alone : (x : Pure-F Pure) → and_level (map-Pure Pure Bool is_and x) ≡ false → All Alone (conjuncts (roll-Pure x))
+alone : (x : Pure-F Pure) → is_and_level (map-Pure Pure Bool is_and x) ≡ false → All Alone (conjuncts (roll-Pure x))
 alone x e =
-    let none : is_and (roll-Pure x) ≡ false = fold-roll-Pure Bool and_level x ∙ e in
+    let none : is_and (roll-Pure x) ≡ false = fold-roll-Pure Bool is_and_level x ∙ e in
     subst (All Alone) (sym (conjuncts-alone (roll-Pure x) none)) (All-cons Alone (roll-Pure x) [] none (All-nil Alone))
 
 all_cleared : (ks : List Cleared) → All Alone (flat_map conjuncts (map (λ (e : Cleared). e.0) ks))
@@ -114,4 +115,4 @@ none_left : (p : Pure) → All Alone (conjuncts p)
 none_left = ind-Pure (λ p. All Alone (conjuncts p)) (λ x y is. subst (λ z. All Alone (conjuncts (roll-Pure z))) is (cleared_level y))
 
 pub conjuncts_are_spliced : ConjunctsAreSpliced
-conjuncts_are_spliced = record { is_one = fold-And and_level; of_and = conjuncts-And; of_other = conjuncts-alone; none_left = none_left }
+conjuncts_are_spliced = record { is_one = fold-And is_and_level; of_and = conjuncts-And; of_other = conjuncts-alone; none_left = none_left }

@@ -11,6 +11,7 @@ use Rattle.hs_pure.specs.declared.lin.Lin.{Lin}
 use Rattle.hs_pure.specs.declared.pure.Pure.{Pure}
 use Rattle.hs_pure.specs.declared.pure.Pure.TheVariants as pure_of
 use Rattle.hs_pure.specs.Sums.{LinIsLight, LinIsOrdered}
+use Rattle.hs_heap.specs.WellFormed.{is_and}
 use Rattle.hs_numbering.specs.declared.numbering.Numbering.{Numbering}
 use Rattle.hs_numbering.specs.Numbering.{Builder, resolve, bind}
 use Rattle.hs_norm_formula.specs.declared.sum.Term.{Term}
@@ -18,7 +19,7 @@ use Rattle.hs_norm_formula.specs.declared.table.Entry.{Entry}
 use Rattle.hs_norm_formula.specs.Sum.{weight, added}
 use Rattle.hs_norm_formula.specs.Expr.{number}
 use Rattle.hs_norm_formula.specs.Item.{item, conjunction}
-use Rattle.hs_norm_formula.specs.Splice.{conjuncts, is_and}
+use Rattle.hs_norm_formula.specs.Splice.{conjuncts}
 use Rattle.hs_norm_formula.specs.Formula.{disjunct, formula}
 
 -- the conjuncts of an "and" are those of its members, any other formula is its only one, and none is an "and"

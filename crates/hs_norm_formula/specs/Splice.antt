@@ -1,5 +1,5 @@
 -- Conjuncts that are themselves an "and" are spliced.
-use Rattle.std.specs.Prelude.{Bool, true, false, List, ◌∷◌, []}
+use Rattle.std.specs.Prelude.{false, List, ◌∷◌, []}
 use Rattle.std.specs.List.{flat_map}
 use Rattle.hs_pure.specs.declared.pure.Pure.{Pure, fold-Pure, map-Pure, roll-Pure}
 use Rattle.hs_pure.specs.declared.pure.Pure.TheOpen.{Pure-F}
@@ -18,13 +18,6 @@ split_level z = (roll-Pure (map-Pure (Pure × List Pure) Pure (λ e. e.0) z), me
 -- the conjuncts of a formula, at every depth
 abbrev pub conjuncts : Pure → List Pure
 conjuncts p = (fold-Pure (Pure × List Pure) split_level p).1
-
-abbrev pub and_level : Pure-F Bool → Bool
-and_level (Pure-F.And parts) = true
-and_level _ = false
-
-abbrev pub is_and : Pure → Bool
-is_and = fold-Pure Bool and_level
 
 -- the conjuncts of items that stand under no quantifier
 abbrev pub conjuncts_of : List Inner → Builder (List Pure)

@@ -2,6 +2,7 @@
 
 ghost use Rattle.std.specs.Prelude.{◌≡◌, ◌++◌, OnOk, map};
 ghost use Rattle.std.specs.List.{flat_map};
+ghost use Rattle.hs_heap.specs.WellFormed.{is_and};
 ghost use Rattle.hs_numbering.specs.Numbering.{Builds};
 ghost use Rattle.hs_norm_formula.specs.Item.{item};
 ghost use Rattle.hs_norm_formula.specs.Splice as spec;
@@ -35,7 +36,7 @@ fn splice_all(alloc: Global, parts: &[Pure], into: &mut Items<Pure>) -> Result<(
 }
 
 fn is_and(p: &Pure) -> bool
-    ensures { result ≡ spec.is_and p.now }
+    ensures { result ≡ is_and p.now }
 {
     match p {
         Pure::And(_) => true,

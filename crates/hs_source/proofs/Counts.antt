@@ -1,5 +1,5 @@
 -- A text has at least as many bytes as tokens, and its tokens spell at most as many items.
-use Rattle.std.proofs.Common.{◌≡◌, ℕ, zero, suc, ◌+◌, ◌<◌, ◌≤◌, Bool, true, false, if◌then◌else◌, List, [], ◌∷◌, ◌++◌, length, length-append, Option, Some, None, Result, Ok, Err, refl, sym, ap, subst, arith}
+use Rattle.std.proofs.Common.{◌≡◌, ℕ, zero, suc, ◌+◌, ◌<◌, ◌≤◌, Bool, true, false, if◌then◌else◌, List, [], ◌∷◌, ◌++◌, length, length-append, Result, Ok, Err, refl, sym, ap, ◌∙◌, subst, arith}
 use Rattle.hs_lex.specs.declared.token.Token.{Token}
 use Rattle.hs_lex.specs.declared.token.TokenKind.{TokenKind}
 use Rattle.hs_lex.specs.declared.token.TokenKind.TheVariants as kinds
@@ -13,19 +13,21 @@ use Rattle.hs_tree.specs.declared.source.Source.{Source}
 use Rattle.hs_tree.specs.declared.source.SourceItem.{SourceItem}
 use Rattle.hs_read.specs.Declare.{source, source_item, begins_item}
 use Rattle.std.specs.List.{fold, filter_map}
+use Rattle.std.proofs.lemmas.List.{length-map}
 use Rattle.hs_tree.specs.declared.source.SourceItem.TheVariants as kind
-use Rattle.hs_numbering.specs.declared.fault.Fault.{Fault}
+use Rattle.hs_heap.specs.declared.definitions.PredDef.{PredDef}
+use Rattle.hs_numbering.specs.declared.names.Names.{Names}
 use Rattle.hs_numbering.specs.declared.numbering.Numbering.{Numbering}
 use Rattle.hs_numbering.specs.declared.numbering.Reading.TheVariants.{Closed}
 use Rattle.hs_numbering.specs.Numbering.{Builder, start, each_counted}
 use Rattle.hs_numbering.specs.Least.{least}
-use Rattle.hs_norm_formula.specs.declared.by_number.NormError.{NormError}
-use Rattle.hs_norm_formula.specs.Numbered.{outcome}
+use Rattle.hs_norm_formula.proofs.Answered.{outcome-Ok}
 use Rattle.hs_norm.specs.declared.resolved.Resolved.{Resolved}
-use Rattle.hs_norm.specs.Declaring.{data_of, pred_of, entail_of, entries}
-use Rattle.hs_norm.specs.Definitions.{node, pred}
-use Rattle.hs_norm.specs.Claims.{entailment}
-use Rattle.hs_norm.specs.Normal.{blame_second, items_normal, normal_of}
+use Rattle.hs_declared.specs.Declaring.{entries, blame_second}
+use Rattle.hs_norm.specs.Items.{data_of, pred_of, entail_of}
+use Rattle.hs_norm_item.specs.Definitions.{node, pred}
+use Rattle.hs_norm_item.specs.Claims.{entailment}
+use Rattle.hs_norm.specs.Normal.{items_normal, normal_of}
 use Rattle.hs_source.specs.Resolved.{literal_limit}
 
 -- ---- tokens
@@ -125,7 +127,7 @@ pub few_items : (text : List ℕ) (tokens : List Token) (tree : Source) → HasT
     → whole (source 64) text tokens ≡ Ok tree → length tree.items ≤ length text
 few_items text tokens tree has is = let a = tokens_few literal_limit text tokens has in let b = items_few text tokens tree is in omega arith
 
--- ---- entailments
+-- ---- entailments and predicates
 
 module _ {A B : Type 0} (f : ℕ → A → Builder B) where
   counted_long : (xs : List A) (ys : List B) (n : Numbering)
@@ -142,13 +144,13 @@ entails_few (kind.Entail d ∷ items) = let few = entails_few items in omega ari
 entails_few (kind.Method d ∷ items) = let few = entails_few items in omega arith
 entails_few (kind.Lemma d ∷ items) = let few = entails_few items in omega arith
 
-abbrev built_value : Resolved → Result Resolved NormError → Resolved
-built_value d (Ok r) = r
-built_value d (Err e) = d
-
-outcome_is : (o : Option Fault) (a r : Resolved) → outcome o a ≡ Ok r → a ≡ r
-outcome_is None a r e = ap (built_value a) e
-outcome_is (Some f) a r e = absurd cc
+preds_few : (items : List SourceItem) → length (filter_map pred_of items) ≤ length items
+preds_few [] = omega arith
+preds_few (kind.Node d ∷ items) = let few = preds_few items in omega arith
+preds_few (kind.Pred d ∷ items) = let few = preds_few items in omega arith
+preds_few (kind.Entail d ∷ items) = let few = preds_few items in omega arith
+preds_few (kind.Method d ∷ items) = let few = preds_few items in omega arith
+preds_few (kind.Lemma d ∷ items) = let few = preds_few items in omega arith
 
 module _ (items : List SourceItem) where
   abbrev after_second : Numbering
@@ -163,7 +165,26 @@ module _ (items : List SourceItem) where
 
 pub few_entailments : (tree : Source) (r : Resolved) → normal_of tree ≡ Ok r → length r.entailments ≤ length tree.items
 few_entailments tree r e =
-    let same = outcome_is (least (items_normal tree.items (start Closed [])).1.faults) (items_normal tree.items (start Closed [])).0 r e in
+    let same = (outcome-Ok (least (items_normal tree.items (start Closed [])).1.faults) (items_normal tree.items (start Closed [])).0 r e).1 in
     let long = counted_long (entailment (entries tree.items)) (filter_map entail_of tree.items) [] (after_preds tree.items) in
     let few = entails_few tree.items in
     omega (arith, ap (λ (x : Resolved). length x.entailments) same, long)
+
+-- the predicates with their names
+abbrev preds_built : List SourceItem → List (PredDef × Names)
+preds_built items = (each_counted (pred (entries items)) (filter_map pred_of items) (after_nodes items)).0
+
+pub few_preds : (tree : Source) (r : Resolved) → normal_of tree ≡ Ok r → length r.defs.preds ≤ length tree.items
+few_preds tree r e =
+    let same = (outcome-Ok (least (items_normal tree.items (start Closed [])).1.faults) (items_normal tree.items (start Closed [])).0 r e).1 in
+    let long = counted_long (pred (entries tree.items)) (filter_map pred_of tree.items) [] (after_nodes tree.items) in
+    let mapped = length-map (preds_built tree.items) (λ (p : PredDef × Names). p.0) in
+    let few = preds_few tree.items in
+    omega (arith, ap (λ (x : Resolved). length x.defs.preds) same, long, mapped)
+
+pub named_preds : (tree : Source) (r : Resolved) → normal_of tree ≡ Ok r → length r.pred_names ≡ length r.defs.preds
+named_preds tree r e =
+    let same = (outcome-Ok (least (items_normal tree.items (start Closed [])).1.faults) (items_normal tree.items (start Closed [])).0 r e).1 in
+    sym (ap (λ (x : Resolved). length x.pred_names) same)
+    ∙ (length-map (preds_built tree.items) (λ (p : PredDef × Names). p.1) ∙ sym (length-map (preds_built tree.items) (λ (p : PredDef × Names). p.0)))
+    ∙ ap (λ (x : Resolved). length x.defs.preds) same

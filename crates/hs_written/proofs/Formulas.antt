@@ -13,14 +13,11 @@ use Rattle.hs_tree.specs.declared.formula.ArgTree.{ArgTree}
 use Rattle.hs_tree.specs.declared.formula.AtomTree.{AtomTree}
 use Rattle.hs_tree.specs.declared.formula.DisjunctTree.{DisjunctTree}
 use Rattle.hs_pure.specs.declared.var.Var.{Var}
-use Rattle.hs_pure.specs.declared.pure.Pure.{Pure, fold-Pure}
-use Rattle.hs_pure.specs.declared.pure.Pure.TheOpen.{Pure-F}
+use Rattle.hs_pure.specs.declared.pure.Pure.{Pure}
 use Rattle.hs_heap.specs.declared.formula.Atom.{Atom}
 use Rattle.hs_heap.specs.declared.formula.Disjunct.{Disjunct}
 use Rattle.hs_heap.specs.declared.definitions.Defs.{Defs}
 use Rattle.hs_heap.specs.Sound.{kinds}
-use Rattle.hs_heap.specs.WellFormed.{is_and_level}
-use Rattle.hs_heap.specs.WellFormed as formed
 use Rattle.hs_numbering.specs.declared.fault.Limit.{Limit}
 use Rattle.hs_numbering.specs.declared.fault.Limit.TheVariants.{Atoms, Cases}
 use Rattle.hs_numbering.specs.declared.fault.Problem.TheVariants.{TooMany}
@@ -32,7 +29,7 @@ use Rattle.hs_norm_formula.specs.Sum.{blame_kind}
 use Rattle.hs_norm_formula.specs.Expr.{bare}
 use Rattle.hs_norm_formula.specs.Table.{entry}
 use Rattle.hs_norm_formula.specs.Item.{Inner, item}
-use Rattle.hs_norm_formula.specs.Splice.{conjuncts, conjuncts_of, and_level, is_and}
+use Rattle.hs_norm_formula.specs.Splice.{conjuncts, conjuncts_of}
 use Rattle.hs_norm_formula.specs.Formula.{value, argument, blame_arity, atom_of, atom_by, atom, limit, counted_atom, disjunct, counted_case}
 use Rattle.hs_norm_formula.specs.Numbered.{entries_of, answer}
 use Rattle.hs_norm_formula.proofs.Splicing.{conjuncts-alone}
@@ -164,27 +161,9 @@ left (x ∷ xs) around e = left xs (take (length around - 1) around) (shorter ar
 
 -- ---- conjuncts
 
-same_level : (x : Pure-F Bool) → and_level x ≡ is_and_level x
-same_level (Pure-F.Eq a b) = refl
-same_level (Pure-F.Lt a b) = refl
-same_level (Pure-F.Le a b) = refl
-same_level (Pure-F.Divides d a) = refl
-same_level (Pure-F.BagEq a b) = refl
-same_level (Pure-F.Subset a b) = refl
-same_level (Pure-F.Member a b) = refl
-same_level (Pure-F.AllOf u b p) = refl
-same_level (Pure-F.Not p) = refl
-same_level (Pure-F.And ps) = refl
-same_level (Pure-F.Or ps) = refl
-same_level (Pure-F.Exists u p) = refl
-same_level (Pure-F.Forall u p) = refl
-
-same_and : (p : Pure) → is_and p ≡ formed.is_and p
-same_and p = λ j. fold-Pure Bool (λ x. same_level x j) p
-
 conjuncts_alone : (around : List ℕ) (ps : List Pure) → AllByRecursion (ConjunctIsWritable around) ps → flat_map conjuncts ps ≡ ps
 conjuncts_alone around [] all = refl
-conjuncts_alone around (p ∷ ps) all = λ j. conjuncts-alone p (same_and p ∙ all.0.flat) j ++ conjuncts_alone around ps all.1 j
+conjuncts_alone around (p ∷ ps) all = λ j. conjuncts-alone p (all.0.flat) j ++ conjuncts_alone around ps all.1 j
 
 all_fit : (around : List Named) (ns : List ℕ) (ps : List Pure) → numbers around ≡ ns → AllByRecursion (ConjunctIsWritable ns) ps → AllFit ps around false
 all_fit around ns [] e all = refl

@@ -1,6 +1,6 @@
 use Rattle.std.proofs.Common.{◌∙◌, arith}
-use Rattle.hs_norm.specs.Declaring.{entail_of}
-use Rattle.hs_norm.specs.Claims.{entailment}
+use Rattle.hs_norm.specs.Items.{entail_of}
+use Rattle.hs_norm_item.specs.Claims.{entailment}
 use Rattle.hs_norm.specs.Normal.{add_some}
 use Rattle.hs_norm.proofs.Builders.{added}
 use Rattle.hs_norm.proofs.source.entailments.Goals as goal

@@ -1,6 +1,6 @@
 use Rattle.std.proofs.Common.{◌∙◌, arith}
-use Rattle.hs_norm.specs.Declaring.{lemma_of}
-use Rattle.hs_norm.specs.Definitions.{lemma}
+use Rattle.hs_norm.specs.Items.{lemma_of}
+use Rattle.hs_norm_item.specs.Definitions.{lemma}
 use Rattle.hs_norm.specs.Normal.{add_some}
 use Rattle.hs_norm.proofs.Builders.{added}
 use Rattle.hs_norm.proofs.source.lemmas.Goals as goal

@@ -1,8 +1,8 @@
 use Rattle.std.proofs.Common.{◌≡◌, take}
 use Rattle.std.specs.List.{filter_map}
 use Rattle.hs_numbering.specs.Numbering.{each_counted}
-use Rattle.hs_norm.specs.Definitions.{lemma}
-use Rattle.hs_norm.specs.Declaring.{lemma_of}
+use Rattle.hs_norm_item.specs.Definitions.{lemma}
+use Rattle.hs_norm.specs.Items.{lemma_of}
 use Rattle.hs_norm.proofs.source.lemmas.Given as goal
 
 abbrev pub invariant-loop-item : goal.invariant-loop-item

@@ -1,5 +1,5 @@
 use Rattle.std.proofs.Common.{◌∙◌, arith}
-use Rattle.hs_norm.specs.Declaring.{method_of}
+use Rattle.hs_norm.specs.Items.{method_of}
 use Rattle.hs_norm.specs.Normal.{method, add_some}
 use Rattle.hs_norm.proofs.Builders.{added}
 use Rattle.hs_norm.proofs.source.methods.Goals as goal

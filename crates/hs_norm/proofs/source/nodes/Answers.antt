@@ -1,6 +1,6 @@
 use Rattle.std.proofs.Common.{◌∙◌, arith}
-use Rattle.hs_norm.specs.Declaring.{data_of}
-use Rattle.hs_norm.specs.Definitions.{node}
+use Rattle.hs_norm.specs.Items.{data_of}
+use Rattle.hs_norm_item.specs.Definitions.{node}
 use Rattle.hs_norm.specs.Normal.{add_some}
 use Rattle.hs_norm.proofs.Builders.{added}
 use Rattle.hs_norm.proofs.source.nodes.Goals as goal

@@ -1,8 +1,8 @@
 use Rattle.std.proofs.Common.{◌≡◌, take}
 use Rattle.std.specs.List.{filter_map}
 use Rattle.hs_numbering.specs.Numbering.{each_counted}
-use Rattle.hs_norm.specs.Definitions.{node}
-use Rattle.hs_norm.specs.Declaring.{data_of}
+use Rattle.hs_norm_item.specs.Definitions.{node}
+use Rattle.hs_norm.specs.Items.{data_of}
 use Rattle.hs_norm.proofs.source.nodes.Given as goal
 
 abbrev pub invariant-loop-item : goal.invariant-loop-item

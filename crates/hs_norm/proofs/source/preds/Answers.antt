@@ -1,6 +1,6 @@
 use Rattle.std.proofs.Common.{◌∙◌, arith}
-use Rattle.hs_norm.specs.Declaring.{pred_of}
-use Rattle.hs_norm.specs.Definitions.{pred}
+use Rattle.hs_norm.specs.Items.{pred_of}
+use Rattle.hs_norm_item.specs.Definitions.{pred}
 use Rattle.hs_norm.specs.Normal.{add_some}
 use Rattle.hs_norm.proofs.Builders.{added}
 use Rattle.hs_norm.proofs.source.preds.Goals as goal

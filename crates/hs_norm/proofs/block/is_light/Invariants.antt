@@ -1,6 +1,0 @@
-use Rattle.std.proofs.Common.{◌≡◌, ◌+◌, ◌^◌, sum_by, take}
-use Rattle.hs_norm.specs.Program.{part_weight}
-use Rattle.hs_norm.proofs.block.is_light.Given as goal
-
-abbrev pub invariant-loop-part : goal.invariant-loop-part
-invariant-loop-part l = l.room + sum_by part_weight (take l.part-index l.parts) ≡ 2 ^ 126

@@ -1,6 +1,0 @@
-use Rattle.std.proofs.Common.{◌≡◌, take}
-use Rattle.hs_norm.specs.Program.{all, use_part}
-use Rattle.hs_norm.proofs.block.use_parts.Given as goal
-
-abbrev pub invariant-loop-part : goal.invariant-loop-part
-invariant-loop-part l = (tt, l.n) ≡ all (use_part l.d l.names) (take l.part-index l.parts) l.fn.n

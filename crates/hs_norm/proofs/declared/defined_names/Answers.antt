@@ -1,8 +1,0 @@
-use Rattle.std.proofs.Common.{◌∙◌, ap, arith}
-use Rattle.hs_norm.specs.Declaring.{defined_name}
-use Rattle.hs_norm.proofs.Lists.{filter_map_push}
-use Rattle.hs_norm.proofs.declared.defined_names.Goals as goal
-
-pub loop-item-preserved : goal.loop-item-preserved
-loop-item-preserved c = filter_map_push defined_name c.args.items.now c.loop-item.item-index c.item-item.result c.loop-item.names c.push_name.new.names _ (omega arith)
-    c.loop-item.invariant c.in_ok-push_name.ensures (c.defined_name.ensures ∙ ap defined_name c.item-item.is)

@@ -1,7 +1,0 @@
-use Rattle.std.proofs.Common.{◌≡◌, take}
-use Rattle.std.specs.List.{filter_map}
-use Rattle.hs_norm.specs.Declaring.{defined_name}
-use Rattle.hs_norm.proofs.declared.defined_names.Given as goal
-
-abbrev pub invariant-loop-item : goal.invariant-loop-item
-invariant-loop-item l = l.names ≡ filter_map defined_name (take l.item-index l.items)

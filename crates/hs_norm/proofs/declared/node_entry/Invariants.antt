@@ -1,5 +1,0 @@
-use Rattle.std.proofs.Common.{◌≡◌, take, map, false}
-use Rattle.hs_norm.proofs.declared.node_entry.Given as goal
-
-abbrev pub invariant-loop-field : goal.invariant-loop-field
-invariant-loop-field l = l.kinds ≡ map (λ f. false) (take l._field-index l.tree.fields)

@@ -1,0 +1,4 @@
+pub mod Claim
+pub mod Claims
+pub mod Definitions
+pub mod Free
