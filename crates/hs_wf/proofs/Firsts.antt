@@ -18,7 +18,7 @@ use Rattle.hs_wf.specs.Faults.{IsFirstUnreached, IsCaseFault, IsFirstInPreds, Is
 use Rattle.hs_wf.specs.Laws.{FaultsExcludeFounded}
 
 -- what is there has what all have
-at_place : {A : Type 0} (P : A → Type 0) (xs : List A) (i : ℕ) (x : A) → slice_get xs i ≡ Some x → All P xs → P x
+pub at_place : {A : Type 0} (P : A → Type 0) (xs : List A) (i : ℕ) (x : A) → slice_get xs i ≡ Some x → All P xs → P x
 at_place P [] i x e h = absurd cc
 at_place P (y ∷ xs) zero x e h = let is : y ≡ x = cc in subst P is (h zero y (omega arith))
 at_place P (y ∷ xs) (suc i) x e h = at_place P xs i x e (λ j d less. h (suc j) d (omega arith))
@@ -28,7 +28,7 @@ first_is_unreached names d [] v f h = absurd f
 first_is_unreached names d (a ∷ rest) v (inl f) h = f.0 (h zero a (omega arith))
 first_is_unreached names d (a ∷ rest) v (inr f) h = first_is_unreached names d rest v f.1 (λ i e less. h (suc i) e (omega arith))
 
-case_fault_excludes : (names : List Var) (d : Disjunct) (fault : CaseFault) → IsCaseFault names d fault → ¬ (CaseIsFounded names d)
+pub case_fault_excludes : (names : List Var) (d : Disjunct) (fault : CaseFault) → IsCaseFault names d fault → ¬ (CaseIsFounded names d)
 case_fault_excludes names d case.RootPredicate f h = let e = h.no_predicate in absurd (cc (e, f))
 case_fault_excludes names d case.NoRoot f h = f.1 h.one_root
 case_fault_excludes names d (case.Unreached v) f h = first_is_unreached names d d.atoms v f.2 h.reached

@@ -4,3 +4,4 @@ pub mod Linked
 pub mod Unmarked
 pub mod Firsts
 pub mod Depth
+mod Unique

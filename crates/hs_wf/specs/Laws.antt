@@ -18,3 +18,8 @@ DepthIsEnough = (defs : Defs) → IsFounded defs → (s : Stack) (h : Heap) (f :
 -- definitions with a first fault are not founded
 abbrev pub FaultsExcludeFounded : Type 0
 FaultsExcludeFounded = (defs : Defs) (fault : WfError) → IsFirstFault defs fault → ¬ (fault ≡ Memory) → ¬ (IsFounded defs)
+
+-- definitions have one first fault
+abbrev pub FirstFaultsAreUnique : Type 0
+FirstFaultsAreUnique = (defs : Defs) (fault other : WfError) → IsFirstFault defs fault → IsFirstFault defs other
+    → ¬ (fault ≡ Memory) → ¬ (other ≡ Memory) → fault ≡ other

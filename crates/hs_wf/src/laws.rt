@@ -1,6 +1,6 @@
 //! Laws of founded definitions. Each is the contract of a function without a body.
 
-ghost use Rattle.hs_wf.specs.Laws.{DepthIsEnough, FaultsExcludeFounded};
+ghost use Rattle.hs_wf.specs.Laws.{DepthIsEnough, FaultsExcludeFounded, FirstFaultsAreUnique};
 
 /// Where definitions are founded, a heap that satisfies a formula satisfies it with predicates unfolded at most
 /// as deep as the heap has nodes, and once more.
@@ -11,4 +11,9 @@ pub fn depth_is_enough()
 /// Definitions with a first fault are not founded.
 pub fn faults_exclude_founded()
     ensures { FaultsExcludeFounded }
+{}
+
+/// Definitions have one first fault.
+pub fn first_faults_are_unique()
+    ensures { FirstFaultsAreUnique }
 {}

@@ -17,4 +17,4 @@ mod shared;
 
 pub use error::WfError;
 pub use first::founded;
-pub use laws::{depth_is_enough, faults_exclude_founded};
+pub use laws::{depth_is_enough, faults_exclude_founded, first_faults_are_unique};

@@ -107,7 +107,7 @@ in_atoms_at [] i d less v k = absurd (omega arith)
 in_atoms_at (a ∷ rest) zero d less v k = or_left (in_atom v a) (list_any (in_atom v) rest) k
 in_atoms_at (a ∷ rest) (suc i) d less v k = or_right (in_atom v a) (list_any (in_atom v) rest) (in_atoms_at rest i d (omega arith) v k)
 
-in_one : (a : Atom) (v : Var) → IsInAtoms (a ∷ []) v → IsTrue (in_atom v a)
+pub in_one : (a : Atom) (v : Var) → IsInAtoms (a ∷ []) v → IsTrue (in_atom v a)
 in_one a v k = elim (or_cases (in_atom v a) (list_any (in_atom v) []) k) [ inl e ↦ e | inr e ↦ absurd cc ]
 
 pub atom_fits_at : (defs : Defs) (atoms : List Atom) (i : ℕ) (d : Atom) (n m : ℕ) → i < length atoms → n ≤ m → AtomsFit defs atoms n → AtomsFit defs (get_or atoms i d ∷ []) m

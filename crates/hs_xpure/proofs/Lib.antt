@@ -10,3 +10,4 @@ mod Steps
 mod Capped
 mod Own
 mod Closed
+mod Few

@@ -1,5 +1,5 @@
 -- What the layers above use of approximations.
-use Rattle.std.specs.Prelude.{◌≡◌, ℕ, ◌<◌, ◌≤◌, ◌⊎◌, false, IsTrue, List, Some}
+use Rattle.std.specs.Prelude.{◌≡◌, ℕ, ◌+◌, ◌^◌, ◌<◌, ◌≤◌, ◌⊎◌, false, IsTrue, List, [], ◌∷◌, Some}
 use Rattle.std.specs.List.{All, list_any}
 use Rattle.hs_pure.specs.declared.var.Var.{Var}
 use Rattle.hs_pure.specs.declared.pure.Pure.{Pure}
@@ -12,11 +12,12 @@ use Rattle.hs_heap.specs.declared.formula.Disjunct.{Disjunct}
 use Rattle.hs_heap.specs.declared.definitions.PredDef.{PredDef}
 use Rattle.hs_heap.specs.declared.definitions.Defs.{Defs}
 use Rattle.hs_heap.specs.Heap.{Heap, IsHeap}
-use Rattle.hs_heap.specs.Meaning.{pred_at, AllTrueAt, SatisfiesAtoms}
+use Rattle.hs_heap.specs.Meaning.{self_var, pred_at, AllTrueAt, SatisfiesAtoms}
 use Rattle.hs_heap.specs.Variables.{in_atom}
 use Rattle.hs_heap.specs.Sound.{AtomFits, IsSound}
-use Rattle.hs_xpure.specs.Approximation.{approximation_of, next_of, xpure_of}
-use Rattle.hs_xpure.specs.Invariants.{invariant_premise, InvariantsHold, InvariantFollows}
+use Rattle.hs_heap.specs.Instance.{body_of_pred}
+use Rattle.hs_xpure.specs.Approximation.{approximation_of, next_of, xpure_of, body_next}
+use Rattle.hs_xpure.specs.Invariants.{pred_atom, invariant_premise, InvariantsHold, InvariantFollows}
 
 -- v is the root or an argument of one of the atoms
 abbrev pub IsInAtoms : List Atom → Var → Type 0
@@ -75,3 +76,13 @@ ApproximationHasNoBags = (defs : Defs) → IsSound defs → HasNoBags defs → (
 abbrev pub PremiseCanBeAsked : Type 0
 PremiseCanBeAsked = (defs : Defs) → IsSound defs → HasNoBags defs → (pred : ℕ) (p : PredDef) → pred_at defs pred ≡ Some p →
     CanBeAsked (invariant_premise defs p) × CanBeAsked p.inv
+
+-- the premise can be formed: the predicate at `self` and its own parameters fits, with numbers below a small next
+abbrev pub PremiseCanBeFormed : Type 0
+PremiseCanBeFormed = (defs : Defs) → IsSound defs → (pred : ℕ) (p : PredDef) → pred_at defs pred ≡ Some p →
+    AtomsFit defs (pred_atom pred self_var p.params ∷ []) p.next × (p.next ≤ 2 ^ 30)
+
+-- the premise takes at most 2^21 numbers
+abbrev pub PremiseTakesFew : Type 0
+PremiseTakesFew = (defs : Defs) → IsSound defs → (pred : ℕ) (p : PredDef) → pred_at defs pred ≡ Some p →
+    body_next defs 0 (body_of_pred p) self_var p.params p.next ≤ p.next + 2 ^ 21

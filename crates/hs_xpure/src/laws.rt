@@ -1,6 +1,6 @@
 //! Laws of approximations, for the proofs of the layers above. Each is the contract of a function without a body.
 
-ghost use Rattle.hs_xpure.specs.Laws.{ApproximationIsTrue, InvariantsAreShown, NewNumbersAreInRange, ApproximationIsOrdered, ApproximationHasNoBags, PremiseCanBeAsked};
+ghost use Rattle.hs_xpure.specs.Laws.{ApproximationIsTrue, InvariantsAreShown, NewNumbersAreInRange, ApproximationIsOrdered, ApproximationHasNoBags, PremiseCanBeAsked, PremiseCanBeFormed, PremiseTakesFew};
 
 /// Where invariants hold and a heap satisfies atoms, their approximation is true at every level, for some values
 /// of its new numbers.
@@ -32,4 +32,14 @@ pub fn approximation_has_no_bags()
 /// The question that shows an invariant is one that `implies` takes.
 pub fn premise_can_be_asked()
     ensures { PremiseCanBeAsked }
+{}
+
+/// That question's left side can be formed by `body`.
+pub fn premise_can_be_formed()
+    ensures { PremiseCanBeFormed }
+{}
+
+/// It takes at most 2^21 new numbers.
+pub fn premise_takes_few()
+    ensures { PremiseTakesFew }
 {}

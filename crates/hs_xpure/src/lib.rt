@@ -19,5 +19,6 @@ pub use calls::{approximation, body, xpure};
 pub use error::XError;
 pub use laws::{
     approximation_has_no_bags, approximation_is_ordered, approximation_is_true,
-    invariants_are_shown, new_numbers_are_in_range, premise_can_be_asked,
+    invariants_are_shown, new_numbers_are_in_range, premise_can_be_asked, premise_can_be_formed,
+    premise_takes_few,
 };
