@@ -4,7 +4,7 @@ use Rattle.hs_pure.specs.declared.var.Var.{Var}
 use Rattle.hs_heap.specs.Entailment.{Entails}
 use Rattle.hs_heap.specs.declared.definitions.Defs.{Defs}
 use Rattle.hs_heap.specs.declared.formula.Formula.{Formula}
-use Rattle.hs_norm.specs.declared.resolved.Entailment.{Entailment}
+use Rattle.hs_norm_item.specs.declared.forms.Entailment.{Entailment}
 use Rattle.hs_points.specs.Formulas.{formula_of}
 use Rattle.hs_points.specs.declared.claim.Claim.{Claim}
 use Rattle.hs_points.specs.declared.claim.Side.{Side}

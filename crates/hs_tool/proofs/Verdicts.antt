@@ -2,7 +2,7 @@
 use Rattle.std.proofs.Common.{◌≡◌, ℕ, ◌+◌, List, [], ◌∷◌, ◌++◌, length, ◌≤◌, ◌<◌, ◌^◌, take, get_or, arith, subst, sym, ap, ◌∙◌, length-append}
 use Rattle.std.proofs.lemmas.List.{take_more, length-take-le}
 use Rattle.hs_heap.specs.declared.definitions.Defs.{Defs}
-use Rattle.hs_norm.specs.declared.resolved.Entailment.{Entailment}
+use Rattle.hs_norm_item.specs.declared.forms.Entailment.{Entailment}
 use Rattle.hs_tool.specs.Sleek.{IsVerdict, AreVerdicts}
 use Rattle.hs_print.specs.declared.line.Line.{Line}
 

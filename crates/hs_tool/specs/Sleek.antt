@@ -5,7 +5,7 @@ use Rattle.hs_heap.specs.declared.definitions.Defs.{Defs}
 use Rattle.hs_heap.specs.declared.definitions.PredDef.{PredDef}
 use Rattle.hs_numbering.specs.declared.names.Names.{Names}
 use Rattle.hs_tree.specs.declared.source.Source.{Source}
-use Rattle.hs_norm.specs.declared.resolved.Entailment.{Entailment}
+use Rattle.hs_norm_item.specs.declared.forms.Entailment.{Entailment}
 use Rattle.hs_norm.specs.declared.resolved.Resolved.{Resolved}
 use Rattle.hs_points.specs.Formulas.{residue_of}
 use Rattle.hs_points.specs.Fits.{ClaimFits, start}
@@ -25,11 +25,11 @@ use Rattle.hs_print.specs.declared.line.Line.{Line}
 use Rattle.hs_print.specs.declared.line.Line.TheVariants as line
 use Rattle.hs_print.specs.declared.why.Why.{Why}
 use Rattle.hs_print.specs.declared.why.Why.TheVariants as why
-use Rattle.hs_print.specs.declared.refusal.Refusal.{Refusal}
 use Rattle.hs_built.specs.Built.{is_built}
 use Rattle.hs_built.specs.Claims.{claim_in}
 use Rattle.hs_tool.specs.declared.reply.Reply.{Reply}
 use Rattle.hs_tool.specs.Reply.{IsFormReply}
+use Rattle.hs_founding.specs.Fault.{HasFoundingFault}
 
 -- the entailment is a claim of points-to atoms, which is well formed
 pub record HasFittingClaim (defs : Defs) (e : Entailment) : Type 0 where
@@ -103,14 +103,10 @@ pub record IsSleekReport (IsShown : Resolved → ℕ → Line → Type 0) (r : R
   pub lines : report ≡ preds ++ (entailments
       ++ line.SleekSummary (count_by is_shown preds) (length preds) (count_by is_valid entailments) (length entailments) ∷ [])
 
--- no stage after the normal form refuses a source yet
-abbrev pub HasNoFault : Resolved → Refusal → Type 0
-HasNoFault r cause = ⊥
-
 -- no predicate has a verdict yet, so that no source with a predicate is served
 abbrev pub HasNoVerdict : Resolved → ℕ → Line → Type 0
 HasNoVerdict r number l = ⊥
 
--- the reply to a source with a normal form
+-- the reply to a source with a normal form: definitions that are not founded are refused for their first fault
 abbrev pub IsSleekReply : Source → Resolved → Reply → Type 0
-IsSleekReply = IsFormReply HasNoFault is_built (IsSleekReport HasNoVerdict)
+IsSleekReply = IsFormReply HasFoundingFault is_built (IsSleekReport HasNoVerdict)

@@ -3,7 +3,8 @@
 //! [`run_tool`] writes one report, which the words and the files determine, and answers its status. A printed
 //! `valid` means that every stack and heap that satisfies the antecedent splits into a part that satisfies
 //! the consequent and a rest that satisfies the printed residue. A refusal is that of the first fault: the words,
-//! the file, the lexer, the reader, the normal form, and then what is not served yet.
+//! the file, the lexer, the reader, the normal form, the definitions where they are not founded, and then what is not
+//! served yet.
 #![tactic(auto)]
 
 mod causes;

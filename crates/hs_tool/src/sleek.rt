@@ -9,7 +9,8 @@ ghost use Rattle.hs_print.specs.Formula.{formula_text};
 ghost use Rattle.hs_print.specs.declared.line.Line.TheVariants as line;
 ghost use Rattle.hs_built.specs.Claims.{claim_in};
 ghost use Rattle.hs_built.specs.Built.{is_built};
-ghost use Rattle.hs_tool.specs.Reply.{IsSourceReply};
+ghost use Rattle.hs_founding.specs.Fault.{HasFoundingFault};
+ghost use Rattle.hs_tool.specs.Reply.{IsFaultless, IsSourceReply};
 ghost use Rattle.hs_tool.specs.Run.{source_limit};
 ghost use Rattle.hs_tool.specs.Sleek.{is_valid, HasFittingClaim, HasNoVerdict, IsVerdict, AreVerdicts, IsSleekReport, IsSleekReply};
 
@@ -18,8 +19,10 @@ use crate::reply::Reply;
 use hs_built::{
     built_sources_have_claims, built_sources_have_no_predicates, claim_of, claims_fit, is_built,
 };
+use hs_founding::founding_fault;
 use hs_heap::Defs;
 use hs_norm::{Entailment, Names, Resolved};
+use hs_norm_sound::definitions_are_sound;
 use hs_points::{Claim, Outcome, Side, claims_entail};
 use hs_points_formulas::{residue_formula, sides_are_formulas};
 use hs_points_search::search;
@@ -154,16 +157,32 @@ fn served(alloc: Global, tree: &Source, resolved: &Resolved) -> Result<Items<Lin
     sleek(alloc, resolved)
 }
 
-// The reply to a source with its normal form.
-fn form_reply(alloc: Global, tree: &Source, resolved: &Resolved) -> Result<Reply, NoMemory>
+// The reply to a source whose definitions have no fault.
+fn faultless_reply(alloc: Global, tree: &Source, resolved: &Resolved) -> Result<Reply, NoMemory>
     requires normal { normal_of tree.now ≡ Ok resolved.now }
     requires few { length resolved.now.entailments ≤ 2 ^ 20 }
+    requires faultless { IsFaultless HasFoundingFault resolved.now }
     ensures { IfOk result (IsSleekReply tree.now resolved.now) }
 {
     if !is_built(tree) {
         return Ok(Reply::Refused(Refusal::NotBuilt));
     }
     Ok(Reply::Answered(served(alloc, tree, resolved)?))
+}
+
+// The reply to a source with its normal form.
+fn form_reply(alloc: Global, tree: &Source, resolved: &Resolved) -> Result<Reply, NoMemory>
+    requires normal { normal_of tree.now ≡ Ok resolved.now }
+    requires few { length resolved.now.entailments ≤ 2 ^ 20 }
+    requires few_preds { length resolved.now.defs.preds ≤ 2 ^ 20 }
+    requires named { length resolved.now.pred_names ≡ length resolved.now.defs.preds }
+    ensures { IfOk result (IsSleekReply tree.now resolved.now) }
+{
+    definitions_are_sound();
+    match founding_fault(alloc, resolved)? {
+        Some(cause) => Ok(Reply::Refused(cause)),
+        None => faultless_reply(alloc, tree, resolved),
+    }
 }
 
 /// The reply to a source of at most 2^20 bytes.
