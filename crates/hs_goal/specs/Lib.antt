@@ -1,0 +1,10 @@
+pub mod Goal
+pub mod Shape
+pub mod Parts
+pub mod Closed
+pub mod Classes
+pub mod Links
+pub mod Keys
+pub mod Tables
+pub mod Anchored
+pub mod Laws
