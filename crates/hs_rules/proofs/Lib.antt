@@ -1,0 +1,21 @@
+pub mod Variables
+pub mod Places
+pub mod Plain
+pub mod Values
+pub mod Holds
+pub mod Fits
+pub mod NewNumbers
+pub mod Anchors
+pub mod Bags
+pub mod Solved
+pub mod Asked
+mod Rules
+pub mod Definitions
+pub mod Fresh
+pub mod Steps
+pub mod FreshSteps
+pub mod Anchored
+pub mod Proper
+pub mod Fitting
+pub mod RenamedFits
+pub mod SubgoalsFit
