@@ -1,0 +1,8 @@
+//! What the layers above use of these rules. Each law is the contract of a function that does nothing.
+
+ghost use Rattle.hs_side_rules.specs.Opening.{FittingCasesCanBeOpened};
+
+/// What the disjunct of a well-formed side binds can be opened.
+pub fn fitting_cases_can_be_opened()
+    ensures { FittingCasesCanBeOpened }
+{}
