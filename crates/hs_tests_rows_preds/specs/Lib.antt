@@ -1,0 +1,2 @@
+pub mod NoBags
+pub mod Renaming
