@@ -1,5 +1,5 @@
 -- Conjuncts that give the one open variable a value, by tests.
-use Rattle.std.specs.Prelude.{ℤ, pos, negsuc, ◌-ℤ◌, Bool, false, not, ◌&&◌, ◌||◌, if◌then◌else◌, List, [], ◌∷◌, Option, Some, None}
+use Rattle.std.specs.Prelude.{ℤ, pos, negsuc, ◌-ℤ◌, Bool, false, not, ◌&&◌, ◌||◌, IsTrue, ◌↔◌, if◌then◌else◌, List, [], ◌∷◌, Option, Some, None}
 use Rattle.std.specs.List.{list_all}
 use Rattle.std.specs.Option.{option_map_or}
 use Rattle.std.specs.Ordering.{int_eq}
@@ -78,3 +78,7 @@ is_equation opens = fold-Pure Bool (is_equation_level opens)
 -- there is such a variable
 abbrev pub HasEquation : List Var → Pure → Type 0
 HasEquation opens p = (v : Var) × IsEquationFor opens v p
+
+-- the test is true exactly where there is such a variable
+abbrev pub EquationsAreTold : Type 0
+EquationsAreTold = (opens : List Var) (p : Pure) → IsTrue (is_equation opens p) ↔ HasEquation opens p

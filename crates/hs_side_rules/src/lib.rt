@@ -14,7 +14,8 @@ mod sides;
 mod splitting;
 
 pub use cases::{left_or, right_or};
+pub use equations::is_equation;
 pub use instantiating::instantiate;
-pub use laws::fitting_cases_can_be_opened;
+pub use laws::{equations_are_told, fitting_cases_can_be_opened};
 pub use opening::{left_exists, right_exists};
 pub use splitting::split;

@@ -11,7 +11,14 @@ use hs_pure::{Pure, Var};
 pub fn are_apart(opens: &[Var], ps: &[Pure]) -> bool
     ensures { result ≡ list_all (λ p. not (has_open opens.now p && has_bags p)) ps.now }
 {
-    ps.iter().all(|p| !(has_open(opens, p) && has_bags(p)))
+    ps.iter().all(|p| !is_mixed(opens, p))
+}
+
+/// Whether the formula has both an open variable and a bag literal.
+pub fn is_mixed(opens: &[Var], p: &Pure) -> bool
+    ensures { result ≡ (has_open opens.now p.now && has_bags p.now) }
+{
+    has_open(opens, p) && has_bags(p)
 }
 
 fn has_open(opens: &[Var], p: &Pure) -> bool

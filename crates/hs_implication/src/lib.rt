@@ -1,0 +1,10 @@
+//! Whether a formula of linear integer arithmetic has a solution, and whether one implies another, by total tests.
+//!
+//! `specs/` has the tests: the free variables are bound and the quantifiers eliminated, over unbounded integers and
+//! without limits, so that a choice by them is a function of the formulas. The functions have no body: their contracts
+//! are the laws that the layers above use.
+#![tactic(auto)]
+
+mod laws;
+
+pub use laws::{implications_are_told, solutions_are_told};
