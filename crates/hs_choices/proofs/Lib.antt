@@ -1,0 +1,9 @@
+pub mod Passing
+pub mod Leaders
+pub mod Answered
+pub mod Tried
+pub mod Lighter
+pub mod Bare
+pub mod Least
+pub mod Untried
+pub mod LemmaSteps

@@ -1,0 +1,5 @@
+mod Rooms
+mod Opened
+mod Proofs
+mod Answered
+mod Complete

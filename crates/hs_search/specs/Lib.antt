@@ -1,0 +1,5 @@
+pub mod Entailments
+pub mod Answer
+pub mod Sleek
+pub mod Falling
+pub mod Laws
