@@ -10,3 +10,4 @@ mod lines;
 mod values;
 
 pub use lines::predicate_lines;
+pub use values::asked_below;

@@ -39,8 +39,13 @@ fn push_both(vars: &mut Vec<Var>, left: &Pure, right: &Pure, number: u32) -> Res
     push_asked(vars, left, right, Var { number, bag: true })
 }
 
-// The free variables of a question with numbers below `next`, by rising number.
-fn asked_below(alloc: Global, left: &Pure, right: &Pure, next: u32) -> Result<Vec<Var>, NoMemory>
+/// The free variables of a question with numbers below `next`, by rising number.
+pub fn asked_below(
+    alloc: Global,
+    left: &Pure,
+    right: &Pure,
+    next: u32,
+) -> Result<Vec<Var>, NoMemory>
     ensures { IfOk result (λ vars. vars.items ≡ passing_to (spec.is_asked left.now right.now) (next - 1)) }
 {
     let mut vars = Vec::new(alloc);

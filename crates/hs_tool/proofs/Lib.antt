@@ -1,6 +1,5 @@
-mod Claims
+mod Served
 mod Reasons
 mod Ending
 mod Replies
-mod Verdicts
 mod Writing

@@ -1,7 +1,8 @@
 -- Reports have the causes of their statuses.
-use Rattle.std.proofs.Common.{◌≡◌, inl, inr, ℕ, ◌<◌, List, [], ◌∷◌, ◌++◌, nat_eq, ◌&&◌, Some, None, Bool, true, false, append_assoc, refl, ap, sym, subst, ◌∙◌, arith}
+use Rattle.std.proofs.Common.{◌≡◌, inl, inr, ℕ, ◌<◌, List, [], ◌∷◌, ◌++◌, nat_eq, ◌&&◌, Some, None, Bool, true, false, refl, ap, sym, subst, arith}
 use Rattle.hs_io.specs.Faults.{Rose}
 use Rattle.hs_cli.specs.declared.jobs.Job.{Job}
+use Rattle.hs_cli.specs.declared.jobs.Options.{Options}
 use Rattle.hs_cli.specs.declared.jobs.Job.TheVariants.{Sleek}
 use Rattle.hs_norm.specs.declared.resolved.Resolved.{Resolved}
 use Rattle.hs_print.specs.declared.line.Line.{Line}
@@ -10,7 +11,7 @@ use Rattle.hs_tool.specs.Status.{is_good, all_good, by_verdicts, status_alone, s
 use Rattle.hs_tool.specs.declared.reply.Reply.{Reply}
 use Rattle.hs_tool.specs.declared.reply.Reply.TheVariants.{FileFault, Refused, Answered}
 use Rattle.hs_tool.specs.Reply.{Known, lines_of}
-use Rattle.hs_tool.specs.Sleek.{IsSleekReport, HasNoVerdict}
+use Rattle.hs_tool.specs.Sleek.{IsSleekReport}
 use Rattle.hs_tool.specs.Run.{IsReply, IsReport}
 use Rattle.hs_tool.specs.Laws.{HasStatusCause, StatusesHaveCauses}
 
@@ -36,15 +37,14 @@ summed_below [] s p v e = omega arith
 summed_below (l ∷ []) s p v e = good_or_not (all_good (l ∷ (line.SleekSummary s p v e ∷ [])))
 summed_below (l ∷ (m ∷ report)) s p v e = good_or_not (all_good (l ∷ (m ∷ (report ++ line.SleekSummary s p v e ∷ []))))
 
-sleek_below : (IsShown : Resolved → ℕ → Line → Type 0) (r : Resolved) (report : List Line) → IsSleekReport IsShown r report → status_of report < 2
-sleek_below IsShown r report right =
-    subst (λ (lines : List Line). status_of lines < 2) (append_assoc right.preds right.entailments _ ∙ sym right.lines)
-    (summed_below (right.preds ++ right.entailments) _ _ _ _)
+sleek_below : (options : Options) (r : Resolved) (report : List Line) → IsSleekReport options r report → status_of report < 2
+sleek_below options r report right =
+    subst (λ (lines : List Line). status_of lines < 2) (sym right.lines) (summed_below (right.preds ++ right.entailments) _ _ _ _)
 
 module _ (known : Known) (before now : ℕ) where
   -- what answers a job is no refusal
   answer_below : (job : Job) (report : List Line) → IsReply known before now job (Answered report) → status_of report < 2
-  answer_below (Sleek name options) report right = sleek_below HasNoVerdict right.are.resolved report right.are.is.2
+  answer_below (Sleek name options) report right = sleek_below options right.are.resolved report right.are.is.2
 
   fault_rose : (job : Job) (name : List ℕ) → IsReply known before now job (FileFault name) → Rose before now
   fault_rose (Sleek own options) name (inl fault) = fault.1

@@ -51,18 +51,18 @@ IsFileReply known rose limit name Are (Answered lines) = HasBytes known limit na
 
 -- ---- sources
 
--- the bytes are a source of whose tree and normal form this is true
-pub record HasSource (bytes : List ℕ) (Is : Source → Resolved → Type 0) : Type 0 where
+-- the bytes are a source of whose normal form this is true
+pub record HasSource (bytes : List ℕ) (Is : Resolved → Type 0) : Type 0 where
   pub tree : Source
   pub resolved : Resolved
   pub read : IsResolved bytes tree resolved
-  pub is : Is tree resolved
+  pub is : Is resolved
 
 -- the reply to the bytes of a source: they are refused for their first fault, or it is that to the source that they are
-abbrev pub IsSourceReply : (Source → Resolved → Reply → Type 0) → List ℕ → Reply → Type 0
-IsSourceReply Is bytes (FileFault name) = HasSource bytes (λ tree r. Is tree r (FileFault name))
-IsSourceReply Is bytes (Refused cause) = IsRefused bytes cause ⊎ HasSource bytes (λ tree r. Is tree r (Refused cause))
-IsSourceReply Is bytes (Answered lines) = HasSource bytes (λ tree r. Is tree r (Answered lines))
+abbrev pub IsSourceReply : (Resolved → Reply → Type 0) → List ℕ → Reply → Type 0
+IsSourceReply Is bytes (FileFault name) = HasSource bytes (λ r. Is r (FileFault name))
+IsSourceReply Is bytes (Refused cause) = IsRefused bytes cause ⊎ HasSource bytes (λ r. Is r (Refused cause))
+IsSourceReply Is bytes (Answered lines) = HasSource bytes (λ r. Is r (Answered lines))
 
 -- no stage after the normal form finds a fault
 abbrev pub IsFaultless : (Resolved → Refusal → Type 0) → Resolved → Type 0
@@ -70,9 +70,9 @@ IsFaultless HasFault r = (cause : Refusal) → HasFault r cause → ⊥
 
 -- the reply to a source with a normal form: it is refused for a fault that a later stage finds, then where it is not
 -- served, or else it is answered
-abbrev pub IsFormReply : (Resolved → Refusal → Type 0) → (Source → Bool) → (Resolved → List Line → Type 0) → Source → Resolved → Reply → Type 0
-IsFormReply HasFault is_served IsAnswer tree r (FileFault name) = ⊥
-IsFormReply HasFault is_served IsAnswer tree r (Refused cause) =
-    HasFault r cause ⊎ (IsFaultless HasFault r × (is_served tree ≡ false) × (cause ≡ NotBuilt))
-IsFormReply HasFault is_served IsAnswer tree r (Answered lines) =
-    IsFaultless HasFault r × (is_served tree ≡ true) × IsAnswer r lines
+abbrev pub IsFormReply : (Resolved → Refusal → Type 0) → (Resolved → Bool) → (Resolved → List Line → Type 0) → Resolved → Reply → Type 0
+IsFormReply HasFault is_served IsAnswer r (FileFault name) = ⊥
+IsFormReply HasFault is_served IsAnswer r (Refused cause) =
+    HasFault r cause ⊎ (IsFaultless HasFault r × (is_served r ≡ false) × (cause ≡ NotBuilt))
+IsFormReply HasFault is_served IsAnswer r (Answered lines) =
+    IsFaultless HasFault r × (is_served r ≡ true) × IsAnswer r lines

@@ -27,7 +27,7 @@ job_named words = if takes hipsleek_app words then job_of (subcommand_of hipslee
 
 -- the reply to a job, where the count of files' faults goes from before to now: a case for each command
 abbrev pub IsReply : Known → (before now : ℕ) → Job → Reply → Type 0
-IsReply known before now (Sleek name options) = IsFileReply known (Rose before now) source_limit name (IsSourceReply IsSleekReply)
+IsReply known before now (Sleek name options) = IsFileReply known (Rose before now) source_limit name (IsSourceReply (IsSleekReply options))
 
 -- the report for a job, or for words that name none
 unfoldable pub IsReport : Known → (before now : ℕ) → Option Job → List Line → Type 0

@@ -7,7 +7,6 @@
 //! served yet.
 #![tactic(auto)]
 
-mod causes;
 mod laws;
 mod output;
 mod reply;

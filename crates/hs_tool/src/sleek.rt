@@ -1,197 +1,132 @@
 //! The reply to a file of entailments.
 
-ghost use Rattle.std.specs.Prelude.{◌≡◌, ◌≤◌, ◌^◌, [], ◌∷◌, length, count_by, IfOk, Ok, Some, true};
-ghost use Rattle.std.specs.List.{All};
-ghost use Rattle.hs_norm.specs.Normal.{normal_of};
-ghost use Rattle.hs_points.specs.Fits.{ClaimFits};
-ghost use Rattle.hs_points.specs.Formulas.{residue_of};
-ghost use Rattle.hs_print.specs.Formula.{formula_text};
-ghost use Rattle.hs_print.specs.declared.line.Line.TheVariants as line;
-ghost use Rattle.hs_built.specs.Claims.{claim_in};
-ghost use Rattle.hs_built.specs.Built.{is_built};
+ghost use Rattle.std.specs.Prelude.{◌≡◌, ◌≤◌, ◌^◌, ◌++◌, ◌∷◌, [], length, IfOk, true};
+ghost use Rattle.hs_cli.specs.Job.{AreInRange};
 ghost use Rattle.hs_founding.specs.Fault.{HasFoundingFault};
+ghost use Rattle.hs_served.specs.Served.{is_served};
 ghost use Rattle.hs_tool.specs.Reply.{IsFaultless, IsSourceReply};
 ghost use Rattle.hs_tool.specs.Run.{source_limit};
-ghost use Rattle.hs_tool.specs.Sleek.{is_valid, HasFittingClaim, HasNoVerdict, IsVerdict, AreVerdicts, IsSleekReport, IsSleekReply};
+ghost use Rattle.hs_tool.specs.Sleek as spec;
+ghost use Rattle.hs_tool.specs.Sleek.{IsNormalForm, IsSleekReport, IsSleekReply};
 
-use crate::causes::why;
 use crate::reply::Reply;
-use hs_built::{
-    built_sources_have_claims, built_sources_have_no_predicates, claim_of, claims_fit, is_built,
-};
+use hs_cli::Options;
+use hs_entail_lines::{entailment_lines, entailments_are_goals};
 use hs_founding::founding_fault;
-use hs_heap::Defs;
-use hs_norm::{Entailment, Names, Resolved};
-use hs_norm_sound::definitions_are_sound;
-use hs_points::{Claim, Outcome, Side, claims_entail};
-use hs_points_formulas::{residue_formula, sides_are_formulas};
-use hs_points_search::search;
-use hs_print::{Line, Refusal, formula};
+use hs_goal::Limits;
+use hs_norm::Resolved;
+use hs_norm_sound::{definitions_are_sound, goals_are_well_formed, goals_have_disjuncts};
+use hs_pred_lines::predicate_lines;
+use hs_print::{Line, Refusal};
 use hs_pure::NoMemory;
-use hs_read::Source;
+use hs_served::{is_served, served_sources_have_no_bags};
 use hs_source::{SourceError, resolve};
-use hs_text::Text;
 use sqlite_items::Items;
 use std::alloc::Global;
 
-// The printed residue.
-fn residue_text(
-    alloc: Global,
-    defs: &Defs,
-    names: &Names,
-    residue: &Option<Side>,
-) -> Result<Text, NoMemory>
-    ensures { IfOk result (λ text. text ≡ formula_text defs.now (Some names.now) (residue_of residue.now)) }
+// The limits of a search.
+fn limits_of(options: Options) -> Limits
+    ensures { result ≡ spec.limits_of options }
 {
-    let rest = residue_formula(alloc, residue)?;
-    Ok(Text::new(formula(alloc, &rest, names, defs)?))
-}
-
-// The printed residues, of which there is one.
-fn residues(
-    alloc: Global,
-    defs: &Defs,
-    names: &Names,
-    residue: &Option<Side>,
-) -> Result<Items<Text>, NoMemory>
-    ensures { IfOk result (λ texts. texts ≡ formula_text defs.now (Some names.now) (residue_of residue.now) ∷ []) }
-{
-    let text = residue_text(alloc, defs, names, residue)?;
-    Ok(Items::from_vec(vec![in alloc; text]?))
-}
-
-// The verdict on an entailment, by its number, that is this claim.
-fn judged(
-    alloc: Global,
-    defs: &Defs,
-    number: u32,
-    entailment: &Entailment,
-    claim: &Claim,
-) -> Result<Line, NoMemory>
-    requires fits { ClaimFits defs.now claim.now }
-    requires is { claim_in entailment.now ≡ Some claim.now }
-    ensures { IfOk result (IsVerdict defs.now number entailment.now) }
-{
-    claims_entail();
-    sides_are_formulas();
-    let names = &entailment.names;
-    match search(alloc, defs, claim)? {
-        Outcome::Valid(residue) => {
-            Ok(Line::Valid(number, residues(alloc, defs, names, &residue)?))
-        }
-        Outcome::Unknown(obligation) => Ok(Line::Unknown(
-            number,
-            why(alloc, defs, names, entailment.next, &obligation)?,
-        )),
+    Limits {
+        rank: options.rank,
+        goals: options.goals,
+        atoms: options.atoms,
+        level: options.level,
+        residues: options.residues,
     }
-}
-
-// The verdict on an entailment, by its number.
-fn verdict(
-    alloc: Global,
-    defs: &Defs,
-    number: u32,
-    entailment: &Entailment,
-) -> Result<Line, NoMemory>
-    requires { HasFittingClaim defs.now entailment.now }
-    ensures { IfOk result (IsVerdict defs.now number entailment.now) }
-{
-    let Some(claim) = claim_of(alloc, entailment)? else {
-        unreachable!()
-    };
-    judged(alloc, defs, number, entailment, &claim)
-}
-
-// A verdict for each entailment, in order.
-fn verdicts(alloc: Global, defs: &Defs, entailments: &[Entailment]) -> Result<Vec<Line>, NoMemory>
-    requires claims { All (HasFittingClaim defs.now) entailments.now }
-    requires few { length entailments.now ≤ 2 ^ 20 }
-    ensures verdicts { IfOk result (λ lines. AreVerdicts defs.now 1 entailments.now lines.items) }
-    ensures each { IfOk result (λ lines. length lines.items ≡ length entailments.now) }
-{
-    let mut lines = Vec::new(alloc);
-    let mut number = 1u32;
-    for entailment in entailments {
-        lines.push(verdict(alloc, defs, number, entailment)?)?;
-        number += 1;
-    }
-    Ok(lines)
 }
 
 // The line that ends a report.
-fn summary(verdicts: &[Line]) -> Line
-    requires { length verdicts.now ≤ 2 ^ 20 }
-    ensures { result ≡ line.SleekSummary 0 0 (count_by is_valid verdicts.now) (length verdicts.now) }
+fn summary(preds: &[Line], entailments: &[Line]) -> Line
+    requires preds { length preds.now ≤ 2 ^ 20 }
+    requires entailments { length entailments.now ≤ 2 ^ 20 }
+    ensures { result ≡ spec.summary_of preds.now entailments.now }
 {
-    let valid = verdicts
+    let shown = preds
+        .iter()
+        .filter(|line| matches!(line, Line::Shown(_)))
+        .count();
+    let valid = entailments
         .iter()
         .filter(|line| matches!(line, Line::Valid(..)))
         .count();
-    Line::SleekSummary(0, 0, valid as u32, verdicts.len() as u32)
+    Line::SleekSummary(
+        shown as u32,
+        preds.len() as u32,
+        valid as u32,
+        entailments.len() as u32,
+    )
 }
 
-// The lines on a source without predicates: a verdict for each entailment, and a summary.
-fn sleek(alloc: Global, resolved: &Resolved) -> Result<Items<Line>, NoMemory>
-    requires preds { resolved.now.defs.preds ≡ [] }
-    requires claims { All (HasFittingClaim resolved.now.defs) resolved.now.entailments }
-    requires few { length resolved.now.entailments ≤ 2 ^ 20 }
-    ensures { IfOk result (IsSleekReport HasNoVerdict resolved.now) }
+// The lines of both kinds, and the summary.
+fn report(mut preds: Vec<Line>, mut entailments: Vec<Line>) -> Result<Items<Line>, NoMemory>
+    requires preds { length preds.items ≤ 2 ^ 20 }
+    requires entailments { length entailments.items ≤ 2 ^ 20 }
+    ensures { IfOk result (λ lines. lines ≡ preds.items ++ entailments.items ++ spec.summary_of preds.items entailments.items ∷ []) }
 {
-    let mut lines = verdicts(alloc, &resolved.defs, resolved.entailments.as_slice())?;
-    let summary = summary(&lines);
-    lines.push(summary)?;
-    Ok(Items::from_vec(lines))
+    let last = summary(&preds, &entailments);
+    preds.append(&mut entailments)?;
+    preds.push(last)?;
+    Ok(Items::from_vec(preds))
 }
 
 // The lines on a source that is served.
-fn served(alloc: Global, tree: &Source, resolved: &Resolved) -> Result<Items<Line>, NoMemory>
-    requires served { is_built tree.now ≡ true }
-    requires normal { normal_of tree.now ≡ Ok resolved.now }
-    requires few { length resolved.now.entailments ≤ 2 ^ 20 }
-    ensures { IfOk result (IsSleekReport HasNoVerdict resolved.now) }
+fn sleek(alloc: Global, resolved: &Resolved, options: Options) -> Result<Items<Line>, NoMemory>
+    requires normal { IsNormalForm resolved.now }
+    requires served { is_served resolved.now ≡ true }
+    requires range { AreInRange options }
+    ensures { IfOk result (IsSleekReport options resolved.now) }
 {
-    built_sources_have_no_predicates();
-    built_sources_have_claims();
-    claims_fit();
-    let _ = tree;
-    sleek(alloc, resolved)
+    served_sources_have_no_bags();
+    let (preds, unshown) = predicate_lines(alloc, resolved, options.atoms)?;
+    let entailments = entailment_lines(
+        alloc,
+        &resolved.defs,
+        resolved.entailments.as_slice(),
+        &unshown,
+        &limits_of(options),
+    )?;
+    report(preds, entailments)
 }
 
 // The reply to a source whose definitions have no fault.
-fn faultless_reply(alloc: Global, tree: &Source, resolved: &Resolved) -> Result<Reply, NoMemory>
-    requires normal { normal_of tree.now ≡ Ok resolved.now }
-    requires few { length resolved.now.entailments ≤ 2 ^ 20 }
+fn faultless_reply(alloc: Global, resolved: &Resolved, options: Options) -> Result<Reply, NoMemory>
+    requires normal { IsNormalForm resolved.now }
+    requires range { AreInRange options }
     requires faultless { IsFaultless HasFoundingFault resolved.now }
-    ensures { IfOk result (IsSleekReply tree.now resolved.now) }
+    ensures { IfOk result (IsSleekReply options resolved.now) }
 {
-    if !is_built(tree) {
+    if !is_served(resolved) {
         return Ok(Reply::Refused(Refusal::NotBuilt));
     }
-    Ok(Reply::Answered(served(alloc, tree, resolved)?))
+    Ok(Reply::Answered(sleek(alloc, resolved, options)?))
 }
 
 // The reply to a source with its normal form.
-fn form_reply(alloc: Global, tree: &Source, resolved: &Resolved) -> Result<Reply, NoMemory>
-    requires normal { normal_of tree.now ≡ Ok resolved.now }
-    requires few { length resolved.now.entailments ≤ 2 ^ 20 }
-    requires few_preds { length resolved.now.defs.preds ≤ 2 ^ 20 }
-    requires named { length resolved.now.pred_names ≡ length resolved.now.defs.preds }
-    ensures { IfOk result (IsSleekReply tree.now resolved.now) }
+fn form_reply(alloc: Global, resolved: &Resolved, options: Options) -> Result<Reply, NoMemory>
+    requires normal { IsNormalForm resolved.now }
+    requires range { AreInRange options }
+    ensures { IfOk result (IsSleekReply options resolved.now) }
 {
-    definitions_are_sound();
     match founding_fault(alloc, resolved)? {
         Some(cause) => Ok(Reply::Refused(cause)),
-        None => faultless_reply(alloc, tree, resolved),
+        None => faultless_reply(alloc, resolved, options),
     }
 }
 
 /// The reply to a source of at most 2^20 bytes.
-pub fn source_reply(alloc: Global, bytes: &[u8]) -> Result<Reply, NoMemory>
-    requires { length bytes.now ≤ source_limit }
-    ensures { IfOk result (IsSourceReply IsSleekReply bytes.now) }
+pub fn source_reply(alloc: Global, bytes: &[u8], options: Options) -> Result<Reply, NoMemory>
+    requires few { length bytes.now ≤ source_limit }
+    requires range { AreInRange options }
+    ensures { IfOk result (IsSourceReply (IsSleekReply options) bytes.now) }
 {
+    definitions_are_sound();
+    goals_are_well_formed();
+    goals_have_disjuncts();
+    entailments_are_goals();
     match resolve(alloc, bytes) {
-        Ok((tree, resolved)) => form_reply(alloc, &tree, &resolved),
+        Ok((_, resolved)) => form_reply(alloc, &resolved, options),
         Err(SourceError::Refused(cause)) => Ok(Reply::Refused(cause)),
         Err(SourceError::Memory) => Err(NoMemory),
     }

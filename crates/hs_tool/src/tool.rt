@@ -3,6 +3,7 @@
 ghost use Rattle.std.specs.Prelude.{IfOk, map};
 ghost use Rattle.std.specs.String.{string_bytes};
 ghost use Rattle.hs_io.specs.Faults.{Rose};
+ghost use Rattle.hs_cli.specs.Job.{AreInRange, IsInRange};
 ghost use Rattle.hs_tool.specs.Reply.{IsFileReply, IsSourceReply};
 ghost use Rattle.hs_tool.specs.Sleek.{IsSleekReply};
 ghost use Rattle.hs_tool.specs.Run.{source_limit, job_named, IsReply, IsReport, Ends};
@@ -76,6 +77,7 @@ fn report_for<F: Files>(
 
 // The reply to a job.
 fn job_reply<F: Files>(alloc: Global, job: Job, files: &mut F) -> Result<Reply, NoMemory>
+    requires { IsInRange job }
     ensures { IfOk result (IsReply (F.texts files.old) (F.faults files.old) (F.faults files.new) job) }
 {
     match job {
@@ -83,18 +85,18 @@ fn job_reply<F: Files>(alloc: Global, job: Job, files: &mut F) -> Result<Reply, 
     }
 }
 
-// The reply to a file of entailments. The options change no answer yet.
+// The reply to a file of entailments.
 fn sleek_file<F: Files>(
     alloc: Global,
     name: Text,
     options: Options,
     files: &mut F,
 ) -> Result<Reply, NoMemory>
-    ensures { IfOk result (IsFileReply (F.texts files.old) (Rose (F.faults files.old) (F.faults files.new)) source_limit name (IsSourceReply IsSleekReply)) }
+    requires { AreInRange options }
+    ensures { IfOk result (IsFileReply (F.texts files.old) (Rose (F.faults files.old) (F.faults files.new)) source_limit name (IsSourceReply (IsSleekReply options))) }
 {
-    let _ = options;
     match files.fetch(alloc, name.as_str(), SOURCE_LIMIT) {
-        Ok(source) => source_reply(alloc, &source),
+        Ok(source) => source_reply(alloc, &source, options),
         Err(FetchError::Failed) => Ok(Reply::FileFault(name)),
         Err(FetchError::TooLarge(_)) => Ok(Reply::Refused(Refusal::FileTooLarge)),
         Err(FetchError::Memory) => Err(NoMemory),

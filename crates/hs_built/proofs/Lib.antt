@@ -1,4 +1,0 @@
-mod Clear
-mod Entailments
-mod Fitting
-mod Readings

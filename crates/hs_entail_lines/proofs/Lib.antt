@@ -1,0 +1,3 @@
+mod Goals
+mod Held
+mod Told

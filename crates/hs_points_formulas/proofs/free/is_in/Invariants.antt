@@ -1,6 +1,0 @@
-use Rattle.std.proofs.Common.{◌≡◌, drop}
-use Rattle.hs_heap.specs.Meaning.{is_in}
-use Rattle.hs_points_formulas.proofs.free.is_in.Given as goal
-
-abbrev pub invariant-loop-w : goal.invariant-loop-w
-invariant-loop-w l = is_in l.v (drop l.w-index l.vars) ≡ is_in l.v l.vars

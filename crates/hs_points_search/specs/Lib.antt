@@ -1,4 +1,0 @@
-pub mod Classes
-pub mod Ready
-pub mod Steps
-pub mod Valued

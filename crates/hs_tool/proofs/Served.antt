@@ -1,0 +1,61 @@
+-- What the lines of a source that is served need.
+use Rattle.std.proofs.Common.{◌≡◌, ℕ, suc, ◌+◌, ◌≤◌, ◌^◌, true, false, List, [], ◌∷◌, ◌++◌, length, refl, sym, ap, subst, arith}
+use Rattle.std.specs.List.{All}
+use Rattle.std.proofs.lemmas.List.Elements.{All-nil}
+use Rattle.hs_heap.specs.declared.definitions.Lemma.{Lemma}
+use Rattle.hs_heap.specs.declared.definitions.PredDef.{PredDef}
+use Rattle.hs_pure.specs.Occurs.{has_bags}
+use Rattle.hs_cli.specs.declared.jobs.Options.{Options}
+use Rattle.hs_cli.specs.Job.{AreInRange}
+use Rattle.hs_norm.specs.declared.resolved.Resolved.{Resolved}
+use Rattle.hs_norm_sound.specs.Laws.{DefinitionsAreSound, GoalsAreWellFormed, GoalsHaveDisjuncts}
+use Rattle.hs_tree.specs.declared.source.Source.{Source}
+use Rattle.hs_source.specs.Resolved.{IsResolved}
+use Rattle.hs_print.specs.declared.line.Line.{Line}
+use Rattle.hs_choices.specs.Laws.{AreOfNumbers}
+use Rattle.hs_search.specs.Answer.{LimitsFit}
+use Rattle.hs_served.specs.Served.{is_served}
+use Rattle.hs_served.specs.Laws.{ServedSourcesHaveNoBags}
+use Rattle.hs_pred_lines.specs.Lines.{AreLines, ArePredicateLines, first_unshown}
+use Rattle.hs_entail_lines.specs.Laws.{EntailmentsAreGoals}
+use Rattle.hs_entail_lines.specs.Lines.{AreEntailmentLines}
+use Rattle.hs_tool.specs.Sleek.{limits_of, summary_of, IsNormalForm, IsSleekReport}
+
+-- a line for each predicate
+pub lines_many : (Is : ℕ → Line → Type 0) (number : ℕ) (ps : List PredDef) (ls : List Line) → AreLines Is number ps ls → length ls ≡ length ps
+lines_many Is number [] [] h = refl
+lines_many Is number [] (l ∷ ls) h = absurd h
+lines_many Is number (p ∷ ps) [] h = absurd h
+lines_many Is number (p ∷ ps) (l ∷ ls) h = ap suc (lines_many Is (number + 1) ps ls h.1)
+
+pub of_numbers : ServedSourcesHaveNoBags → (r : Resolved) → is_served r ≡ true → AreOfNumbers r.defs
+of_numbers served r e =
+    let has = served r e in
+    record {
+      preds = has.0;
+      lemmas = subst (All (λ (l : Lemma). All (λ p. has_bags p ≡ false) l.right.pure)) (sym has.2) (All-nil (λ (l : Lemma). All (λ p. has_bags p ≡ false) l.right.pure));
+      params = has.1;
+    }
+
+pub limits_fit : (options : Options) → AreInRange options → LimitsFit (limits_of options)
+limits_fit options range = record {
+  level = range.level.1;
+  residues = range.residues.0;
+  atoms = let most = range.atoms.1 in omega (arith, most);
+}
+
+pub normal_form : DefinitionsAreSound → GoalsAreWellFormed → GoalsHaveDisjuncts → EntailmentsAreGoals → (bytes : List ℕ) (tree : Source) (r : Resolved)
+    → IsResolved bytes tree r → length r.pred_names ≡ length r.defs.preds → length r.entailments ≤ 2 ^ 20 → length r.defs.preds ≤ 2 ^ 20 → IsNormalForm r
+normal_form sound formed filled goals bytes tree r is named few few_preds = record {
+  sound = sound tree r is.normal;
+  goals = λ k d low. goals r.defs _ (formed tree r is.normal k d low) (filled 64 bytes is.tokens tree r is.spelled is.normal k d low).1;
+  named = named;
+  few = few;
+  few_preds = few_preds;
+}
+
+-- the report of these lines
+pub sleek_report : (options : Options) (r : Resolved) (preds entailments report : List Line) → ArePredicateLines r options.atoms preds
+    → AreEntailmentLines r.defs (limits_of options) (first_unshown preds) r.entailments entailments → report ≡ preds ++ entailments ++ summary_of preds entailments ∷ []
+    → IsSleekReport options r report
+sleek_report options r preds entailments report told each lines = record { preds = preds; shown = told; entailments = entailments; each = each; lines = lines }
