@@ -4,31 +4,23 @@ use Rattle.std.specs.List.{flat_map}
 use Rattle.std.proofs.Common.{arith}
 use Rattle.hs_calculus.specs.Calculus.{Calculus, Falls}
 use Rattle.hs_tests_calculus.specs.declared.toy.Rule.{Rule}
-use Rattle.hs_tests_calculus.specs.declared.toy.Rule.TheVariants.{End, No, Down, Twice}
+use Rattle.hs_tests_calculus.specs.declared.toy.Rule.TheVariants.{End, Down, Twice}
 
 abbrev pub choices_at : ℕ → List Rule
 choices_at zero = End ∷ []
-choices_at (suc zero) = No ∷ []
+choices_at (suc zero) = []
 choices_at (suc (suc zero)) = Down ∷ []
 choices_at (suc (suc (suc n))) = Down ∷ Twice ∷ []
 
 abbrev pub is_paid : Rule → Bool
 is_paid End = false
-is_paid No = false
 is_paid Down = false
 is_paid Twice = true
 
 abbrev pub subgoals_by : ℕ → Rule → List ℕ
 subgoals_by n End = []
-subgoals_by n No = []
 subgoals_by n Down = (n - 2) ∷ []
 subgoals_by n Twice = (n - 2) ∷ (n - 2) ∷ []
-
-abbrev pub holds_by : Rule → Bool
-holds_by End = true
-holds_by No = false
-holds_by Down = true
-holds_by Twice = true
 
 -- a derivation is the list of its rules
 abbrev pub toy : Calculus ℕ Rule (List Rule)
@@ -37,13 +29,13 @@ toy =
       choices = choices_at;
       is_paid = is_paid;
       subgoals = subgoals_by;
-      holds = λ goal rule. holds_by rule;
+      holds = λ goal rule. true;
       join = λ goal rule parts. rule ∷ flat_map (λ part. part) parts;
       size = λ n. n;
     }
 
 pub falls : Falls toy
 falls zero = (λ free. tt, tt)
-falls (suc zero) = (λ free. tt, tt)
+falls (suc zero) = tt
 falls (suc (suc zero)) = (λ free. (omega arith, tt), tt)
 falls (suc (suc (suc n))) = (λ free. (omega arith, tt), (λ free. absurd (cc), tt))

@@ -1,4 +1,4 @@
-//! A calculus of numbers that are taken down to 0 by twos; 1 has no derivation.
+//! A calculus of numbers that are taken down to 0 by twos; 1 has no choice.
 ghost use Rattle.std.specs.Prelude.{◌≡◌, ⊤, IfOk};
 ghost use Rattle.hs_calculus.specs.Search.{MayJoin};
 ghost use Rattle.hs_tests_calculus.specs.Toy.{toy, falls, choices_at};
@@ -11,7 +11,6 @@ use std::alloc::Global;
 #[derive(Clone, Copy, Debug)]
 pub enum Rule {
     End,
-    No,
     Down,
     Twice,
 }
@@ -23,7 +22,7 @@ fn choices_of(alloc: Global, goal: u32) -> Result<Vec<Rule>, NoMemory>
 {
     match goal {
         0 => Ok(vec![in alloc; Rule::End]?),
-        1 => Ok(vec![in alloc; Rule::No]?),
+        1 => Ok(Vec::new(alloc)),
         2 => Ok(vec![in alloc; Rule::Down]?),
         _ => Ok(vec![in alloc; Rule::Down, Rule::Twice]?),
     }
@@ -46,9 +45,9 @@ impl Calculus for Toy {
 
     ghost is_spent = { λ _ _ _. ⊥ };
 
-    ghost is_stuck = { λ _ _ _. ⊥ };
+    ghost is_stuck = { λ _ goal o. o ≡ goal };
 
-    ghost is_refuted = { λ _ goal _ o. o ≡ goal };
+    ghost is_refuted = { λ _ _ _ _. ⊥ };
 
     ghost falls = { λ _. falls };
 
@@ -60,8 +59,8 @@ impl Calculus for Toy {
         matches!(rule, Rule::Twice)
     }
 
-    fn stuck(&self, _alloc: Global, _goal: &u32) -> Result<u32, NoMemory> {
-        Err(NoMemory)
+    fn stuck(&self, _alloc: Global, goal: &u32) -> Result<u32, NoMemory> {
+        Ok(*goal)
     }
 
     fn premises(
@@ -73,7 +72,6 @@ impl Calculus for Toy {
         let less = goal.saturating_sub(2);
         match rule {
             Rule::End => Ok(Premises::Goals(Vec::new(alloc))),
-            Rule::No => Ok(Premises::Refuted(*goal)),
             Rule::Down => Ok(Premises::Goals(vec![in alloc; less]?)),
             Rule::Twice => Ok(Premises::Goals(vec![in alloc; less, less]?)),
         }
