@@ -29,14 +29,14 @@ segment() { # segment COUNT: a list of so many nodes before a list is a list
   printf ' * x%d::ll<m> |- x1::ll<n>;\n' $(($1 + 1))
 }
 
-path() { # path COUNT: a predicate that binds so many variables besides, folded once and again
-  printf 'data node { int val; node next; }\npred p<> == self = null or exists v, q'
+path() { # path COUNT: a predicate that binds so many variables besides, folded at each of three nodes
+  printf 'data node { int val; node next; }\npred p<> == exists v, q'
   for i in $(seq "$1"); do printf ', a%d' "$i"; done
   printf '. self::node<v, q> * q::p<>'
   for i in $(seq "$1"); do printf ' & a%d = %d' "$i" "$i"; done
   printf ';\nentail '
-  atoms 11
-  printf ' & x12 = null |- x1::p<>;\n'
+  atoms 3
+  printf ' |- x1::p<>;\n'
 }
 
 verdict() { # verdict FILE OPTIONS: the line of the first entailment, or what ended the run
@@ -60,6 +60,6 @@ measure() { # measure NAME: times the program on the file NAME
 }
 
 printf '%-14s %7s %8s %6s  %s\n' source goals seconds MB verdict
-for count in 1 2 4 8 16 32 64; do folded $count > folded-$count; measure folded-$count; done
-for count in 1 2 4 8 16 32 63; do segment $count > segment-$count; measure segment-$count; done
-for count in 10 100 900; do path $count > path-$count; measure path-$count; done
+for count in 1 2 3 4 8 64; do folded $count > folded-$count; measure folded-$count; done
+for count in 1 2 3 8 63; do segment $count > segment-$count; measure segment-$count; done
+for count in 10 100 898; do path $count > path-$count; measure path-$count; done
