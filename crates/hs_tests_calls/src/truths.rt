@@ -35,9 +35,9 @@ fn double_is_negative(alloc: Global, v1: i128) -> Result<Result<bool, Wide>, All
 fn wide_is_told_where_a_product_has_more_than_128_bits(rt: HostRuntime) -> Result<(), Fail> {
     let alloc = rt.alloc();
     let top = 1 << 126;
-    assert_eq!(rt; double_is_negative(alloc, top)?, Err(Wide));
-    assert_eq!(rt; double_is_negative(alloc, top - 1)?, Ok(false));
-    assert_eq!(rt; double_is_negative(alloc, -top)?, Ok(true));
+    for (v1, wanted) in [(top, Err(Wide)), (top - 1, Ok(false)), (-top, Ok(true))] {
+        assert_eq!(rt; double_is_negative(alloc, v1)?, wanted);
+    }
     Ok(())
 }
 
@@ -53,9 +53,9 @@ fn all_above(alloc: Global, v1: i128) -> Result<Result<bool, Wide>, AllocError> 
 #[test]
 fn all_is_of_each_element(rt: HostRuntime) -> Result<(), Fail> {
     let alloc = rt.alloc();
-    assert_eq!(rt; all_above(alloc, 2)?, Ok(true));
-    assert_eq!(rt; all_above(alloc, 3)?, Ok(false));
-    assert_eq!(rt; all_above(alloc, 4)?, Ok(false));
+    for (v1, wanted) in [(2, true), (3, false), (4, false)] {
+        assert_eq!(rt; all_above(alloc, v1)?, Ok(wanted));
+    }
     Ok(())
 }
 
@@ -69,10 +69,9 @@ fn divides(alloc: Global, d: i128, v1: i128) -> Result<Result<bool, Wide>, Alloc
 #[test]
 fn a_divisor_is_at_least_1(rt: HostRuntime) -> Result<(), Fail> {
     let alloc = rt.alloc();
-    assert_eq!(rt; divides(alloc, 3, 6)?, Ok(true));
-    assert_eq!(rt; divides(alloc, 3, 7)?, Ok(false));
-    assert_eq!(rt; divides(alloc, -3, 6)?, Ok(false));
-    assert_eq!(rt; divides(alloc, 0, 0)?, Ok(false));
+    for (d, v1, wanted) in [(3, 6, true), (3, 7, false), (-3, 6, false), (0, 0, false)] {
+        assert_eq!(rt; divides(alloc, d, v1)?, Ok(wanted));
+    }
     Ok(())
 }
 
@@ -93,10 +92,10 @@ fn is_subset(alloc: Global, v2: i128, v3: i128) -> Result<Result<bool, Wide>, Al
 #[test]
 fn members_are_counted(rt: HostRuntime) -> Result<(), Fail> {
     let alloc = rt.alloc();
-    assert_eq!(rt; is_member(alloc, 1)?, Ok(true));
-    assert_eq!(rt; is_member(alloc, 2)?, Ok(false));
-    assert_eq!(rt; is_subset(alloc, 1, 2)?, Ok(true));
-    assert_eq!(rt; is_subset(alloc, 2, 1)?, Ok(false));
+    for (v1, wanted) in [(1, true), (2, false)] {
+        assert_eq!(rt; is_member(alloc, v1)?, Ok(wanted));
+        assert_eq!(rt; is_subset(alloc, v1, 3 - v1)?, Ok(wanted));
+    }
     Ok(())
 }
 
@@ -134,15 +133,15 @@ fn joins_to(
 #[test]
 fn bags_are_joined_by_counts(rt: HostRuntime) -> Result<(), Fail> {
     let alloc = rt.alloc();
-    let union = joins_to(alloc, Join::Union, 1, &[(1, 3), (3, 1)])?;
-    assert_eq!(rt; union, Ok(true));
-    let same = joins_to(alloc, Join::Union, 1, &[(1, 2), (3, 1)])?;
-    assert_eq!(rt; same, Ok(false));
-    let inter = joins_to(alloc, Join::Inter, 1, &[(1, 1)])?;
-    assert_eq!(rt; inter, Ok(true));
-    let less = joins_to(alloc, Join::Diff, 1, &[(1, 1), (3, 1)])?;
-    assert_eq!(rt; less, Ok(true));
-    let absent = joins_to(alloc, Join::Diff, 2, &[(1, 2), (3, 1)])?;
-    assert_eq!(rt; absent, Ok(true));
+    let cases: [(Join, i128, &[(i128, i128)], bool); 5] = [
+        (Join::Union, 1, &[(1, 3), (3, 1)], true),
+        (Join::Union, 1, &[(1, 2), (3, 1)], false),
+        (Join::Inter, 1, &[(1, 1)], true),
+        (Join::Diff, 1, &[(1, 1), (3, 1)], true),
+        (Join::Diff, 2, &[(1, 2), (3, 1)], true),
+    ];
+    for (join, v1, v3, wanted) in cases {
+        assert_eq!(rt; joins_to(alloc, join, v1, v3)?, Ok(wanted));
+    }
     Ok(())
 }
