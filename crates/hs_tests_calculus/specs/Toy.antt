@@ -10,7 +10,9 @@ abbrev pub choices_at : ℕ → List Rule
 choices_at zero = End ∷ []
 choices_at (suc zero) = []
 choices_at (suc (suc zero)) = Down ∷ []
-choices_at (suc (suc (suc n))) = Down ∷ Twice ∷ []
+choices_at (suc (suc (suc zero))) = Down ∷ Twice ∷ []
+choices_at (suc (suc (suc (suc zero)))) = Down ∷ Twice ∷ []
+choices_at (suc (suc (suc (suc (suc n))))) = Down ∷ []
 
 abbrev pub is_paid : Rule → Bool
 is_paid End = false
@@ -38,4 +40,6 @@ pub falls : Falls toy
 falls zero = (λ free. tt, tt)
 falls (suc zero) = tt
 falls (suc (suc zero)) = (λ free. (omega arith, tt), tt)
-falls (suc (suc (suc n))) = (λ free. (omega arith, tt), (λ free. absurd (cc), tt))
+falls (suc (suc (suc zero))) = (λ free. (omega arith, tt), (λ free. absurd (cc), tt))
+falls (suc (suc (suc (suc zero)))) = (λ free. (omega arith, tt), (λ free. absurd (cc), tt))
+falls (suc (suc (suc (suc (suc n))))) = (λ free. (omega arith, tt), tt)

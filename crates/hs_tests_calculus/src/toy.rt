@@ -24,7 +24,8 @@ fn choices_of(alloc: Global, goal: u32) -> Result<Vec<Rule>, NoMemory>
         0 => Ok(vec![in alloc; Rule::End]?),
         1 => Ok(Vec::new(alloc)),
         2 => Ok(vec![in alloc; Rule::Down]?),
-        _ => Ok(vec![in alloc; Rule::Down, Rule::Twice]?),
+        3 | 4 => Ok(vec![in alloc; Rule::Down, Rule::Twice]?),
+        _ => Ok(vec![in alloc; Rule::Down]?),
     }
 }
 
