@@ -1,7 +1,8 @@
 #!/usr/bin/env bash
-# Times the search of `hipsleek sleek` on lists and on long paths: bench/search.sh PROGRAM [SECONDS]
+# Times the search of `hipsleek sleek` on lists and on long paths: bench/search.sh PROGRAM [SECONDS [long]]
 # Prints a table of the source, the goals that the search looks at, seconds, peak memory in MB and the first verdict. The
 # goals are found by halving: the least limit with which the verdict is the same. A run is ended after SECONDS, or 60.
+# With `long` it times the longest path alone, whose goals are 902 N + 1, and which takes 12 GB.
 set -eu
 program=$(realpath "$1")
 limit=${2:-60}
@@ -39,6 +40,16 @@ path() { # path COUNT: a predicate that binds so many variables besides, folded 
   printf ' |- x1::p<>;\n'
 }
 
+long() { # long COUNT: a predicate without nodes that binds 900 variables, folded so often
+  printf 'pred e<> == exists a1'
+  for i in $(seq 2 900); do printf ', a%d' "$i"; done
+  printf '. self = null'
+  for i in $(seq 900); do printf ' & a%d = %d' "$i" "$i"; done
+  printf '; data node { int val; node next; } entail x = null & y = null |- x::e<>'
+  for _ in $(seq 2 "$1"); do printf ' * x::e<>'; done
+  printf ' * y::node<c, z>;\n'
+}
+
 verdict() { # verdict FILE OPTIONS: the line of the first entailment, or what ended the run
   timeout "$limit" "$program" sleek "$@" | grep -m 1 '^entail' || echo "ended"
 }
@@ -58,6 +69,15 @@ measure() { # measure NAME: times the program on the file NAME
   peak=$( (command -v /usr/bin/time > /dev/null && /usr/bin/time -f %M timeout "$limit" "$program" sleek "$1" --rank 64 2>&1 > /dev/null | tail -n 1) || echo 0)
   printf '%-14s %7s %8s %6s  %s\n' "$1" "$(goals "$1")" "$(tail -n 1 seconds)" "$((peak / 1024))" "$(grep -m 1 '^entail' out | cut -c 1-60 || echo ended)"
 }
+
+if [ "${3:-}" = long ]; then
+  for count in 1 6 12; do
+    long $count > long-$count
+    echo "long-$count"
+    time timeout "$limit" "$program" sleek long-$count || true
+  done
+  exit 0
+fi
 
 printf '%-14s %7s %8s %6s  %s\n' source goals seconds MB verdict
 for count in 1 2 3 4 8 64; do folded $count > folded-$count; measure folded-$count; done
