@@ -1,13 +1,12 @@
 //! Questions and their answers.
 
-ghost use Rattle.std.specs.Prelude.{◌≡◌, ◌≤◌, ◌<◌, ◌^◌, false, IfOk, IfSome, None, IsErrOf};
+ghost use Rattle.std.specs.Prelude.{◌≡◌, ◌≤◌, ◌<◌, ◌^◌, false, IfOk};
 ghost use Rattle.hs_pure.specs.Assertion.{assertion_of, truth, negation};
 ghost use Rattle.hs_pure.specs.Eval.{stack_of};
 ghost use Rattle.hs_pure.specs.Occurs.{has_bags};
 ghost use Rattle.hs_pure.specs.Stack.{Stack};
 ghost use Rattle.hs_pure.specs.Sums.{IsOrdered};
 ghost use Rattle.hs_pure.specs.Truth.{TrueAt};
-ghost use Rattle.hs_cooper.specs.declared.stop.Stop.TheVariants as stop;
 ghost use Rattle.hs_decide.specs.Question.{question};
 ghost use Rattle.hs_decide.specs.Size.{size_of};
 ghost use Rattle.hs_decide.specs.Span.{SpanIsWide, IsSpent};
@@ -16,30 +15,11 @@ ghost use Rattle.hs_decide.specs.declared.answer.Answer.TheVariants.{Yes, Atoms,
 
 use crate::Answer;
 use crate::formula::counterexample;
-use crate::quantifiers::without_quantifiers;
-use crate::solve::solve;
-use crate::variables::free_variables;
 use hs_cooper::Stop;
-use hs_pure::{NoMemory, Pure, Valuation};
+use hs_plain::solution;
+use hs_pure::{NoMemory, Pure};
 use sqlite_items::Items;
 use std::alloc::Global;
-
-// Values that make the question true, or none where no stack does.
-fn solution(alloc: Global, question: &Pure, atoms: u64) -> Result<Option<Valuation>, Stop>
-    requires no_bags { has_bags question.now ≡ false }
-    requires ordered { IsOrdered question.now }
-    requires small { atoms ≤ 2 ^ 30 }
-    ensures found { IfOk result (λ o. IfSome o (λ v. TrueAt (stack_of v) question.now)) }
-    ensures none { IfOk result (λ o. o ≡ None → (s : Stack) → ¬ (TrueAt s question.now)) }
-    ensures atoms { IsErrOf result stop.Atoms → atoms < size_of (assertion_of question.now) }
-    ensures wide { IsErrOf result stop.Wide → SpanIsWide (assertion_of question.now) }
-{
-    let plain = without_quantifiers(alloc, question, atoms)?;
-    let Ok(variables) = free_variables(alloc, question) else {
-        return Err(Stop::Memory);
-    };
-    solve(alloc, variables.as_slice(), &plain, atoms)
-}
 
 // The answer to a question.
 fn answer(alloc: Global, question: &Pure, atoms: u64) -> Result<Answer, NoMemory>

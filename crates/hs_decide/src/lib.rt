@@ -8,12 +8,7 @@
 mod answer;
 mod decide;
 mod formula;
-mod laws;
-mod quantifiers;
 mod shared;
-mod solve;
-mod variables;
 
 pub use answer::Answer;
 pub use decide::{implies, unsat};
-pub use laws::{free_variables_are_free, free_variables_rise};

@@ -15,9 +15,9 @@ use Rattle.hs_elimination.proofs.Decided.{tested, simple-without, same-without, 
 use Rattle.hs_elimination.proofs.Order.{order_is, bags_are, All-both}
 use Rattle.hs_elimination.proofs.Stage3.{contains_cases, contains_none}
 use Rattle.hs_decide.specs.Question.{question}
-use Rattle.hs_decide.specs.Variables.{free_variables}
-use Rattle.hs_decide.specs.Span.{zeros}
-use Rattle.hs_decide.proofs.Free.{free_in}
+use Rattle.hs_plain.specs.Variables.{free_variables}
+use Rattle.hs_plain.specs.Span.{zeros}
+use Rattle.hs_plain.proofs.Free.{free_in}
 use Rattle.hs_implication.proofs.Numbers.{test-alike}
 use Rattle.hs_implication.specs.Implied.{for_some, is_satisfiable, is_implied, SolutionsAreTold, ImplicationsAreTold}
 

@@ -9,8 +9,8 @@ use Rattle.hs_pure.specs.Occurs.{has_bags}
 use Rattle.hs_pure.specs.Sums.{IsOrdered}
 use Rattle.hs_elimination.specs.Decided.{is_true_at}
 use Rattle.hs_decide.specs.Question.{question}
-use Rattle.hs_decide.specs.Variables.{free_variables}
-use Rattle.hs_decide.specs.Span.{zeros}
+use Rattle.hs_plain.specs.Variables.{free_variables}
+use Rattle.hs_plain.specs.Span.{zeros}
 
 -- for some values of these variables, the first outermost
 abbrev pub for_some : List Var → Assertion → Assertion

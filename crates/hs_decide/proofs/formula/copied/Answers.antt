@@ -1,8 +1,0 @@
-use Rattle.std.proofs.Common.{refl}
-use Rattle.hs_decide.proofs.formula.copied.Goals as goal
-
-pub returns-in-Ok : goal.returns-in-Ok
-returns-in-Ok c = record { same = c.in-Ok.ensures; memory = tt }
-
-pub returns-in-Err : goal.returns-in-Err
-returns-in-Err c = record { same = tt; memory = refl }

@@ -1,5 +1,0 @@
-use Rattle.hs_decide.proofs.Free.{free_variables_are_free}
-use Rattle.hs_decide.proofs.laws.free_variables_are_free.Goals as goal
-
-pub returns : goal.returns
-returns c = free_variables_are_free

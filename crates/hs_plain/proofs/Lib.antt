@@ -1,0 +1,5 @@
+pub mod Sums
+pub mod Inserting
+pub mod Free
+pub mod Chain
+pub mod Questions

@@ -1,0 +1,4 @@
+pub mod Variables
+pub mod Size
+pub mod Span
+pub mod Laws
