@@ -1,5 +1,5 @@
 -- Without quantifiers no variable is new, and what is known of the formula without them is known of the formula.
-use Rattle.std.proofs.Common.{◌≡◌, ℕ, ◌<◌, Bool, true, false, not, ◌&&◌, ◌||◌, IsTrue, List, inl, inr, refl, sym, ◌∙◌, subst}
+use Rattle.std.proofs.Common.{◌≡◌, ℕ, ◌<◌, Bool, true, false, not, ◌&&◌, ◌||◌, IsTrue, List, inr, refl, sym, ◌∙◌, subst}
 use Rattle.std.specs.List.{Contains}
 use Rattle.hs_pure.specs.declared.var.Var.{Var}
 use Rattle.hs_pure.specs.declared.pure.Pure.{Pure}
@@ -20,7 +20,7 @@ use Rattle.hs_quantifiers.specs.Size.{quantifier_size}
 use Rattle.hs_quantifiers.proofs.Stages.{max_right}
 use Rattle.hs_plain.specs.Variables.{free_variables}
 use Rattle.hs_plain.specs.Size.{chain_size, plain_size}
-use Rattle.hs_plain.specs.Span.{HasWideChain, PlainIsWide}
+use Rattle.hs_plain.specs.Span.{plain_stack, plain_values, HasWideChain, PlainIsWide}
 use Rattle.hs_plain.proofs.Free.{free_in}
 use Rattle.hs_plain.proofs.Chain.{Named}
 
@@ -78,6 +78,9 @@ module _ (q r : Pure) (bags : has_bags q ≡ false) (exact : assertion_of r ≡ 
 
   pub true-without : IsOrdered q → (s : Stack) → TrueAt s q → TrueAt s r
   true-without order s h = subst (IsTrueAt s) (sym exact) ((same-without (assertion_of q) none_there ((order_is q).0 order) s).1 h)
+
+  pub plain_values-question : (vs : List Var) → vs ≡ free_variables (assertion_of q) → plain_stack vs (assertion_of r) ≡ plain_values (assertion_of q)
+  plain_values-question vs is = λ i. plain_stack (is i) (exact i)
 
   pub size-question : (n : ℕ) (vs : List Var) → vs ≡ free_variables (assertion_of q) → n < chain_size vs (assertion_of r) → n < plain_size (assertion_of q)
   size-question n vs is h =

@@ -42,6 +42,10 @@ HasWideChain (x ∷ xs) p = HasWideStages x p ⊎ HasWideChain xs (without_varia
 
 -- ---- questions
 
+-- the plain values of the free variables
+abbrev pub plain_values : Assertion → Stack
+plain_values q = plain_stack (free_variables q) (without_quantifiers q)
+
 -- some number of the plain decision passes 128 bits
 abbrev pub PlainIsWide : Assertion → Type 0
 PlainIsWide q = HasWideQuantifiers q ⊎ HasWideChain (free_variables q) (without_quantifiers q)

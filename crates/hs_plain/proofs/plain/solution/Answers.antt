@@ -9,7 +9,7 @@ use Rattle.hs_quantifiers.specs.Size.{quantifier_size}
 use Rattle.hs_plain.specs.Size.{chain_size}
 use Rattle.hs_quantifiers.proofs.Stages.{max_left}
 use Rattle.hs_quantifiers.proofs.Parts.{simple_of, ordered_of}
-use Rattle.hs_plain.proofs.Questions.{named-question, true-question, true-without, size-question, wide-question}
+use Rattle.hs_plain.proofs.Questions.{named-question, plain_values-question, true-question, true-without, size-question, wide-question}
 use Rattle.hs_plain.proofs.plain.solution.Goals as goal
 
 pub returns-in_err-plain-clause-atoms : goal.returns-in_err-plain-clause-atoms
@@ -31,6 +31,12 @@ solve-requires-clause-named c = named-question c.args.question.now c.in_ok-plain
 pub returns-clause-found : goal.returns-clause-found
 returns-clause-found c =
     ok_map c.solve.result (λ o h. IfSome_then o h (λ v. true-question c.args.question.now c.in_ok-plain.plain c.requires.no_bags c.in_ok-plain.ensures.exact c.requires.ordered (stack_of v))) c.solve.ensures.found
+
+pub returns-clause-values : goal.returns-clause-values
+returns-clause-values c =
+    ok_map c.solve.result
+    (λ o h. IfSome_then o h (λ v k. (k.0, k.1 ∙ plain_values-question c.args.question.now c.in_ok-plain.plain c.requires.no_bags c.in_ok-plain.ensures.exact c.as_slice.result.now (c.as_slice.ensures.value ∙ c.in-Ok.ensures))))
+    c.solve.ensures.plain
 
 pub returns-clause-none : goal.returns-clause-none
 returns-clause-none c =

@@ -1,0 +1,42 @@
+-- Integers that are tested, and bags that are made of tables.
+use Rattle.std.proofs.Common.{◌≡◌, ℕ, ℤ, pos, negsuc, ◌≤ℤ◌, true, false, ◌||◌, List, [], ◌∷◌, refl, sym, ap, ◌∙◌, arith, unsigned_abs, if◌then◌else◌, ◌⊎◌, inl, inr}
+use Rattle.std.specs.Ordering.{int_eq}
+use Rattle.std.proofs.lemmas.Int.{ints}
+use Rattle.std.proofs.lemmas.Bool.{cases_Bool}
+use Rattle.std.proofs.lemmas.Bool.Decides.{Decides-int_eq}
+use Rattle.hs_pure.specs.Multiset
+use Rattle.hs_pure.proofs.Listed.{count-nothing, count-set_count}
+use Rattle.hs_truth.proofs.Elements.{is_among}
+use Rattle.hs_reduction.specs.Rebuilt.{tabulate}
+
+pub int_same : (x y : ℤ) → int_eq x y ≡ true → x ≡ y
+int_same x y e = (Decides-int_eq x y).0 e
+
+pub int_itself : (x : ℤ) → int_eq x x ≡ true
+int_itself x = (Decides-int_eq x x).1 refl
+
+pub int_equal : (x y : ℤ) → x ≡ y → int_eq x y ≡ true
+int_equal x y e = (Decides-int_eq x y).1 e
+
+pub int_other : (x y : ℤ) → ¬ (x ≡ y) → int_eq x y ≡ false
+int_other x y apart = elim (cases_Bool (int_eq x y)) [ inl is ↦ absurd (apart (int_same x y is)) | inr isnt ↦ isnt ]
+
+pub int_cases : (x y : ℤ) → (x ≡ y) ⊎ (¬ (x ≡ y))
+int_cases x y = elim (cases_Bool (int_eq x y)) [
+  | inl is ↦ inl (int_same x y is)
+  | inr isnt ↦ inr (λ e. let is : int_eq x y ≡ true = int_equal x y e in absurd cc)
+]
+
+pub natural : (z : ℤ) → pos 0 ≤ℤ z → z ≡ pos (unsigned_abs z)
+natural (pos n) h = refl
+natural (negsuc n) h = absurd (omega (arith, ints))
+
+-- a table has the counts that it was made of
+pub count-tabulate : (f : ℤ → ℕ) (xs : List ℤ) (x : ℤ) → Multiset.count (tabulate f xs) x ≡ (if is_among x xs then f x else 0)
+count-tabulate f [] x = count-nothing x
+count-tabulate f (y ∷ ys) x = count-set_count (tabulate f ys) y (f y) x ∙ by_test (count-tabulate f ys x) (cases_Bool (int_eq x y))
+  where
+    by_test : Multiset.count (tabulate f ys) x ≡ (if is_among x ys then f x else 0) → ((int_eq x y ≡ true) ⊎ (int_eq x y ≡ false)) →
+        (if int_eq x y then f y else Multiset.count (tabulate f ys) x) ≡ (if int_eq x y || is_among x ys then f x else 0)
+    by_test rest (inl is) = rw is (ap f (sym (int_same x y is)))
+    by_test rest (inr isnt) = rw isnt rest
