@@ -1,10 +1,11 @@
 -- Integers that are tested, and bags that are made of tables.
-use Rattle.std.proofs.Common.{◌≡◌, ℕ, ℤ, pos, negsuc, ◌≤ℤ◌, true, false, ◌||◌, List, [], ◌∷◌, refl, sym, ap, ◌∙◌, arith, unsigned_abs, if◌then◌else◌, ◌⊎◌, inl, inr}
+use Rattle.std.proofs.Common.{◌≡◌, ℕ, ℤ, pos, negsuc, ◌≤ℤ◌, true, false, ◌||◌, List, [], ◌∷◌, refl, sym, ap, ◌∙◌, arith, if◌then◌else◌, ◌⊎◌, inl, inr}
 use Rattle.std.specs.Ordering.{int_eq}
 use Rattle.std.proofs.lemmas.Int.{ints}
 use Rattle.std.proofs.lemmas.Bool.{cases_Bool}
 use Rattle.std.proofs.lemmas.Bool.Decides.{Decides-int_eq}
 use Rattle.hs_pure.specs.Multiset
+use Rattle.hs_pure.specs.Eval.{natural}
 use Rattle.hs_pure.proofs.Listed.{count-nothing, count-set_count}
 use Rattle.hs_truth.proofs.Elements.{is_among}
 use Rattle.hs_reduction.specs.Rebuilt.{tabulate}
@@ -27,9 +28,9 @@ int_cases x y = elim (cases_Bool (int_eq x y)) [
   | inr isnt ↦ inr (λ e. let is : int_eq x y ≡ true = int_equal x y e in absurd cc)
 ]
 
-pub natural : (z : ℤ) → pos 0 ≤ℤ z → z ≡ pos (unsigned_abs z)
-natural (pos n) h = refl
-natural (negsuc n) h = absurd (omega (arith, ints))
+pub not_negative_is : (z : ℤ) → pos 0 ≤ℤ z → z ≡ pos (natural z)
+not_negative_is (pos n) h = refl
+not_negative_is (negsuc n) h = absurd (omega (arith, ints))
 
 -- a table has the counts that it was made of
 pub count-tabulate : (f : ℤ → ℕ) (xs : List ℤ) (x : ℤ) → Multiset.count (tabulate f xs) x ≡ (if is_among x xs then f x else 0)

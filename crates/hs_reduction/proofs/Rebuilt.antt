@@ -1,16 +1,17 @@
 -- The bags that are rebuilt of the counts.
-use Rattle.std.proofs.Common.{◌≡◌, ℕ, zero, suc, ◌<◌, ◌≤◌, ◌⊎◌, inl, inr, ℤ, pos, ◌≤ℤ◌, true, false, length, refl, sym, ap, ◌∙◌, subst, arith, unsigned_abs}
+use Rattle.std.proofs.Common.{◌≡◌, ℕ, zero, suc, ◌<◌, ◌≤◌, ◌⊎◌, inl, inr, ℤ, pos, ◌≤ℤ◌, true, false, length, refl, sym, ap, ◌∙◌, subst, arith}
 use Rattle.std.specs.Ordering.{int_eq}
 use Rattle.hs_pure.specs.declared.var.Var.{Var}
 use Rattle.hs_pure.specs.Multiset
 use Rattle.hs_pure.specs.Stack.{Stack}
 use Rattle.hs_pure.specs.Truth.{value, IsTrueAt}
+use Rattle.hs_pure.specs.Eval.{natural}
 use Rattle.hs_truth.proofs.Elements.{is_among}
 use Rattle.hs_reduction.specs.Layout.{Layout, layout, width, element, count_number, has_name, name_place, after}
 use Rattle.hs_reduction.specs.Reduction.{equal_counts, is_count, are_counts}
 use Rattle.hs_reduction.specs.Rebuilt.{count_at, element_values, count_of_value, rebuilt_bag, rebuilt}
 use Rattle.hs_reduction.specs.Laws.{RebuiltBagsMakeTrue, CountsAreCounts}
-use Rattle.hs_reduction.proofs.Bags.{int_cases, int_equal, int_other, natural, count-tabulate}
+use Rattle.hs_reduction.proofs.Bags.{int_cases, int_equal, int_other, not_negative_is, count-tabulate}
 use Rattle.hs_reduction.proofs.Below.{from_top}
 use Rattle.hs_reduction.proofs.Values.{value-variable}
 use Rattle.hs_reduction.proofs.Places.{name_place-is}
@@ -40,8 +41,8 @@ module _ (l : Layout) (t : Stack) where
     not_negative : (i : ℕ) → i < width l → pos 0 ≤ℤ count_at l t block i
     not_negative i h = subst (λ z. pos 0 ≤ℤ z) (value-variable t (count_number l block i)) (all_below-each (width l) (is_count l block) t counts i h).0
 
-    is_natural : (i : ℕ) → i < width l → count_at l t block i ≡ pos (unsigned_abs (count_at l t block i))
-    is_natural i h = natural (count_at l t block i) (not_negative i h)
+    is_natural : (i : ℕ) → i < width l → count_at l t block i ≡ pos (natural (count_at l t block i))
+    is_natural i h = not_negative_is (count_at l t block i) (not_negative i h)
 
     same_before : (i j : ℕ) → i < width l → j < i → value t (element l i) ≡ value t (element l j) → count_at l t block i ≡ count_at l t block j
     same_before i j h less same = elim (all_below-each i (equal_counts l block i) t (all_below-each (width l) (is_count l block) t counts i h).1 j less) [

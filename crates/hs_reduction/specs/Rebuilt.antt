@@ -1,9 +1,10 @@
 -- The bags that the counts of a reduction say.
-use Rattle.std.specs.Prelude.{◌≡◌, ℕ, zero, suc, ◌<◌, ℤ, pos, ◌≤ℤ◌, List, [], ◌∷◌, length, unsigned_abs, if◌then◌else◌}
+use Rattle.std.specs.Prelude.{◌≡◌, ℕ, zero, suc, ◌<◌, ℤ, pos, ◌≤ℤ◌, List, [], ◌∷◌, length, if◌then◌else◌}
 use Rattle.std.specs.Ordering.{int_eq}
 use Rattle.hs_pure.specs.Multiset.{Multiset, nothing, set_count}
 use Rattle.hs_pure.specs.Stack.{Stack}
 use Rattle.hs_pure.specs.Truth.{value}
+use Rattle.hs_pure.specs.Eval.{natural}
 use Rattle.hs_reduction.specs.Layout.{number_variable, has_name, name_place, Layout, width, element, count_number}
 
 -- the bag with the counts of f at the listed integers, and 0 elsewhere
@@ -24,7 +25,7 @@ module _ (l : Layout) (t : Stack) where
   -- the count of a block at the last of the first n element terms that is worth x
   abbrev pub count_of_value : ℕ → ℕ → ℤ → ℕ
   count_of_value block zero x = 0
-  count_of_value block (suc n) x = if int_eq (value t (element l n)) x then unsigned_abs (count_at block n) else count_of_value block n x
+  count_of_value block (suc n) x = if int_eq (value t (element l n)) x then natural (count_at block n) else count_of_value block n x
 
   abbrev pub rebuilt_bag : ℕ → Multiset
   rebuilt_bag block = tabulate (count_of_value block (width l)) (element_values (width l))

@@ -1,0 +1,4 @@
+pub mod Merging
+pub mod Substituted
+pub mod Ordering
+pub mod Parts

@@ -1,0 +1,14 @@
+pub mod Smalls
+pub mod Bounds
+pub mod Steps
+pub mod Zeros
+pub mod Solutions
+pub mod Pivots
+pub mod Sounds
+pub mod Members
+pub mod Truths
+pub mod Lookups
+pub mod Listing
+pub mod Denials
+pub mod Reductions
+pub mod Verdicts

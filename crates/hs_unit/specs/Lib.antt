@@ -1,0 +1,4 @@
+pub mod Sides
+pub mod Reduction
+pub mod Question
+pub mod Settling
