@@ -1,3 +1,4 @@
 pub mod Said
 pub mod Placed
 pub mod Bagged
+pub mod Right

@@ -9,10 +9,9 @@ use Rattle.hs_pure.specs.Multiset
 use Rattle.hs_pure.specs.Eval.{natural, listed_count, multiset_of}
 use Rattle.hs_pure.proofs.Lists.{All-first, All-later, All-weaker}
 use Rattle.hs_pure.proofs.Listed.{count-multiset_of, count-set_count}
-use Rattle.hs_reduction.proofs.Bags.{int_equal, int_other, int_cases}
+use Rattle.hs_reduction.proofs.Bags.{int_equal, int_other, int_cases, same_counts}
 use Rattle.hs_counts.specs.Counts.{Rises}
 use Rattle.hs_counts.specs.Listed.{freed, put_count, with_count}
-use Rattle.hs_counts.proofs.Said.{same_counts}
 
 under : (a b : ℤ) → a <ℤ b → lt_z a b ≡ true
 under a b h = grind (arith, ints)

@@ -1,8 +1,5 @@
 -- What a list of counts says of each integer.
-use Rattle.std.proofs.Common.{◌≡◌, ℕ, zero, suc, ℤ, Bool, true, false, ◌||◌, ◌⊎◌, inl, inr, Option, Some, None, List, [], ◌∷◌, ◌++◌, refl, sym, ap, ◌∙◌, arith, if◌then◌else◌}
-use Rattle.std.specs.FinMap
-use Rattle.std.specs.FinMap.{same_map, int_cmp-IsAntisymmetric}
-use Rattle.std.specs.Cmp.{int_cmp_total}
+use Rattle.std.proofs.Common.{◌≡◌, ℕ, zero, suc, ℤ, Bool, true, false, ◌||◌, ◌⊎◌, inl, inr, List, [], ◌∷◌, ◌++◌, refl, sym, ap, ◌∙◌, if◌then◌else◌}
 use Rattle.std.specs.Ordering.{int_eq}
 use Rattle.std.proofs.lemmas.Bool.{cases_Bool}
 use Rattle.hs_pure.specs.declared.var.Var.{Var}
@@ -16,20 +13,10 @@ use Rattle.hs_pure.proofs.Listed.{count-nothing, count-set_count}
 use Rattle.hs_truth.proofs.Elements.{is_among}
 use Rattle.hs_reduction.specs.Layout.{number_variable, has_name, name_place, Layout, width, element, count_number}
 use Rattle.hs_reduction.specs.Rebuilt.{element_values, count_at, count_of_value, rebuilt_bag}
-use Rattle.hs_reduction.proofs.Bags.{int_equal, int_other, int_cases, count-tabulate}
+use Rattle.hs_reduction.proofs.Bags.{int_equal, int_other, int_cases, count-tabulate, same_counts}
 use Rattle.hs_counts.specs.declared.count.Count.{Count}
 use Rattle.hs_counts.specs.Counts.{bag_with, block_counts, counts_of_names, counts_of}
 use Rattle.hs_counts.specs.Laws.{RebuiltByCounts}
-
--- bags with equal counts are equal
-kept_same : (a b : Option ℕ) → count_kept a ≡ count_kept b → a ≡ b
-kept_same None None e = refl
-kept_same None (Some n) e = absurd (omega arith)
-kept_same (Some n) None e = absurd (omega arith)
-kept_same (Some n) (Some k) e = let f : n ≡ k = omega arith in ap Some f
-
-pub same_counts : (m n : Multiset) → ((x : ℤ) → Multiset.count m x ≡ Multiset.count n x) → m ≡ n
-same_counts m n h = same_map int_cmp_total int_cmp-IsAntisymmetric m n (λ x. kept_same (FinMap.get m x) (FinMap.get n x) (h x))
 
 module _ (t : Stack) where
   pub bag_with-append : (cs ds : List Count) (v : Var) (m : Multiset) → bag_with t (cs ++ ds) v m ≡ bag_with t ds v (bag_with t cs v m)

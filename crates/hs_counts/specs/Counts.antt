@@ -1,5 +1,5 @@
 -- The bags that a list of counts says.
-use Rattle.std.specs.Prelude.{ℕ, zero, suc, ℤ, pos, ◌<ℤ◌, List, [], ◌∷◌, ◌++◌, if◌then◌else◌}
+use Rattle.std.specs.Prelude.{◌≡◌, ℕ, zero, suc, ℤ, pos, ◌<ℤ◌, ◌≤ℤ◌, List, [], ◌∷◌, ◌++◌, if◌then◌else◌}
 use Rattle.std.specs.List.{All, Any}
 use Rattle.hs_pure.specs.declared.var.Var.{Var}
 use Rattle.hs_pure.specs.declared.valuation.Valuation.{Valuation}
@@ -19,6 +19,10 @@ module _ (t : Stack) where
   -- the stack with the bags that a list of counts says: nothing else is in them
   abbrev pub stack_with_counts : List Count → Stack
   stack_with_counts cs v = record { number = (t v).number; bag = bag_with cs v nothing }
+
+  -- no count is negative, and equal elements of one bag variable have equal counts
+  abbrev pub ItemsAreRight : List Count → Type 0
+  ItemsAreRight cs = All (λ c. (pos 0 ≤ℤ (t c.count).number) × All (λ d. c.of ≡ d.of → value t c.element ≡ value t d.element → (t c.count).number ≡ (t d.count).number) cs) cs
 
   -- a number that is met when an element is evaluated has more than 128 bits
   abbrev pub HasWideElement : List Count → Type 0

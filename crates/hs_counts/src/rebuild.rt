@@ -114,8 +114,9 @@ fn list_bag(
     Ok(())
 }
 
-/// The valuation with the bags that the counts say, in the place of its own. `Wide` comes where a product, a partial
-/// sum or the value of an element has more than 128 bits, and never else.
+/// The valuation with the bags that the counts say, in the place of its own. A count that is not positive is none, and
+/// of equal elements the last one counts. `Wide` comes only where a product, a partial sum or the value of an element has
+/// more than 128 bits.
 pub fn rebuild_bags(
     alloc: Global,
     counts: &[Count],

@@ -1,10 +1,10 @@
 -- Questions: their conditions, and what a solution says of their sides.
-use Rattle.std.proofs.Common.{◌≡◌, ℕ, ◌<◌, Bool, true, false, not, ◌&&◌, ◌||◌, IsTrue, List, [], ◌∷◌, inl, inr, refl, sym, ap, ◌∙◌, subst}
+use Rattle.std.proofs.Common.{◌≡◌, Bool, false, ◌||◌, List, [], ◌∷◌, inl, inr, refl, sym, ap, ◌∙◌, subst}
 use Rattle.std.proofs.lemmas.List.Elements.{All-nil}
 use Rattle.hs_pure.specs.declared.pure.Pure.{Pure}
 use Rattle.hs_pure.specs.declared.pure.Pure.TheVariants as pure_of
 use Rattle.hs_pure.specs.declared.valuation.Valuation.{Valuation}
-use Rattle.hs_pure.specs.Assertion.{Assertion, truth, eq, lt, le, divides, bag_eq, subset, member, all_of, negation, both, either, exists, forall, pure_level, assertion_of}
+use Rattle.hs_pure.specs.Assertion.{truth, negation, both, pure_level, assertion_of}
 use Rattle.hs_pure.specs.Occurs.{has_bags}
 use Rattle.hs_pure.specs.Stack.{Stack}
 use Rattle.hs_pure.specs.Sums.{LinIsOrdered, IsOrdered}

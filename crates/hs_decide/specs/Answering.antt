@@ -1,5 +1,7 @@
 -- What an answer says.
 use Rattle.hs_pure.specs.declared.valuation.Valuation.{Valuation}
+use Rattle.hs_unit.specs.declared.settled.Settled.{Settled}
+use Rattle.hs_unit.specs.declared.settled.Settled.TheVariants as settled
 use Rattle.hs_decide.specs.declared.answer.Answer.{Answer}
 use Rattle.hs_decide.specs.declared.answer.Answer.TheVariants.{Yes, No, Atoms, Wide}
 
@@ -16,3 +18,8 @@ IsDecided Yes = Unit {0}
 IsDecided (No v) = Unit {0}
 IsDecided Atoms = ⊥
 IsDecided Wide = ⊥
+
+-- the answer to a unit question
+abbrev pub answer_of : Settled → Answer
+answer_of settled.Yes = Yes
+answer_of (settled.No v) = No v

@@ -1,6 +1,7 @@
 //! Formulas made of formulas.
 
-ghost use Rattle.std.specs.Prelude.{◌≡◌, IfOk};
+ghost use Rattle.std.specs.Prelude.{◌≡◌, [], IfOk};
+ghost use Rattle.hs_pure.specs.declared.pure.Pure.TheVariants.{Or};
 ghost use Rattle.hs_pure.specs.Assertion.{assertion_of, negation, both};
 
 use hs_pure::{NoMemory, Pure};
@@ -16,4 +17,11 @@ pub(crate) fn counterexample(alloc: Global, a: &Pure, b: &Pure) -> Result<Pure, 
     members.push(a.copy(alloc)?)?;
     members.push(Pure::Not(Boxed::new(alloc, denied)?))?;
     Ok(Pure::And(members))
+}
+
+// What is false.
+pub(crate) fn falsehood(alloc: Global) -> Result<Boxed<Pure>, NoMemory>
+    ensures { IfOk result (λ p. p ≡ Or []) }
+{
+    Ok(Boxed::new(alloc, Pure::Or(Items::new(alloc)))?)
 }

@@ -1,10 +1,14 @@
 -- Integers that are tested, and bags that are made of tables.
-use Rattle.std.proofs.Common.{◌≡◌, ℕ, ℤ, pos, negsuc, ◌≤ℤ◌, true, false, ◌||◌, List, [], ◌∷◌, refl, sym, ap, ◌∙◌, arith, if◌then◌else◌, ◌⊎◌, inl, inr}
+use Rattle.std.proofs.Common.{◌≡◌, ℕ, ℤ, pos, negsuc, ◌≤ℤ◌, true, false, ◌||◌, Option, Some, None, List, [], ◌∷◌, refl, sym, ap, ◌∙◌, arith, if◌then◌else◌, ◌⊎◌, inl, inr}
+use Rattle.std.specs.FinMap
+use Rattle.std.specs.FinMap.{same_map, int_cmp-IsAntisymmetric}
+use Rattle.std.specs.Cmp.{int_cmp_total}
 use Rattle.std.specs.Ordering.{int_eq}
 use Rattle.std.proofs.lemmas.Int.{ints}
 use Rattle.std.proofs.lemmas.Bool.{cases_Bool}
 use Rattle.std.proofs.lemmas.Bool.Decides.{Decides-int_eq}
 use Rattle.hs_pure.specs.Multiset
+use Rattle.hs_pure.specs.Multiset.{Multiset, count_kept}
 use Rattle.hs_pure.specs.Eval.{natural}
 use Rattle.hs_pure.proofs.Listed.{count-nothing, count-set_count}
 use Rattle.hs_truth.proofs.Elements.{is_among}
@@ -31,6 +35,16 @@ int_cases x y = elim (cases_Bool (int_eq x y)) [
 pub not_negative_is : (z : ℤ) → pos 0 ≤ℤ z → z ≡ pos (natural z)
 not_negative_is (pos n) h = refl
 not_negative_is (negsuc n) h = absurd (omega (arith, ints))
+
+-- bags with equal counts are equal
+kept_same : (a b : Option ℕ) → count_kept a ≡ count_kept b → a ≡ b
+kept_same None None e = refl
+kept_same None (Some n) e = absurd (omega arith)
+kept_same (Some n) None e = absurd (omega arith)
+kept_same (Some n) (Some k) e = let f : n ≡ k = omega arith in ap Some f
+
+pub same_counts : (a b : Multiset) → ((x : ℤ) → Multiset.count a x ≡ Multiset.count b x) → a ≡ b
+same_counts a b h = same_map int_cmp_total int_cmp-IsAntisymmetric a b (λ x. kept_same (FinMap.get a x) (FinMap.get b x) (h x))
 
 -- a table has the counts that it was made of
 pub count-tabulate : (f : ℤ → ℕ) (xs : List ℤ) (x : ℤ) → Multiset.count (tabulate f xs) x ≡ (if is_among x xs then f x else 0)

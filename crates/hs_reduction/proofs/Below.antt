@@ -52,10 +52,10 @@ terms-top : (n top : ℕ) (ts : List (Var × ℤ)) → top < n → TermsBelow n 
 terms-top n top [] h k = h
 terms-top n top (t ∷ ts) h k = let l = k.0 in terms-top n (max top t.0.number) ts (omega arith) k.1
 
-lin-below : (n : ℕ) (a : Lin) → lin_top a < n → LinBelow n a
+pub lin-below : (n : ℕ) (a : Lin) → lin_top a < n → LinBelow n a
 lin-below n a h = (terms-below n 0 a.terms h).1
 
-lin-top : (n : ℕ) (a : Lin) → 0 < n → LinBelow n a → lin_top a < n
+pub lin-top : (n : ℕ) (a : Lin) → 0 < n → LinBelow n a → lin_top a < n
 lin-top n a h k = terms-top n 0 a.terms h k
 
 less_left : (m n k : ℕ) → max m n < k → m < k

@@ -6,6 +6,7 @@ pub mod Counts
 pub mod Instances
 pub mod Back
 pub mod Laid
+pub mod Apart
 pub mod Rebuilt
 pub mod Search
 pub mod Forth

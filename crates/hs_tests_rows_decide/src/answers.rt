@@ -6,10 +6,10 @@ ghost use Rattle.hs_pure.specs.Sums.{IsOrdered};
 ghost use Rattle.hs_elimination.specs.Normal.{is_simple};
 
 use crate::formulas::NoRow;
-use hs_cooper::{Stop, eliminate, witness};
+use hs_cooper::{Stop, eliminate, substitute, witness};
 use hs_decide::{Answer, implies, unsat};
 use hs_print::numbered_pure;
-use hs_pure::{Pure, Valuation, Var};
+use hs_pure::{Lin, Pure, Valuation, Var};
 use sqlite_items::Items;
 use std::alloc::Global;
 
@@ -89,6 +89,21 @@ pub fn push_rest(alloc: Global, out: &mut String, f: &Pure, atoms: u64) -> Resul
     requires small { atoms ≤ 2 ^ 30 }
 {
     match eliminate(alloc, X, f, atoms) {
+        Ok(rest) => {
+            let rest = Box::new(alloc, rest)?;
+            let text = numbered_pure(alloc, &rest)?;
+            write!(out, "{text}")?;
+            Ok(())
+        }
+        Err(stop) => push_stop(out, stop),
+    }
+}
+
+pub fn push_substituted(alloc: Global, out: &mut String, f: &Pure, term: &Lin) -> Result<(), NoRow>
+    requires simple { IsTrue (is_simple (assertion_of f.now)) }
+    requires ordered { IsOrdered f.now }
+{
+    match substitute(alloc, f, X, term) {
         Ok(rest) => {
             let rest = Box::new(alloc, rest)?;
             let text = numbered_pure(alloc, &rest)?;

@@ -1,9 +1,10 @@
 //! Rows and their answers.
 ghost use Rattle.std.specs.Prelude.{◌≤◌, ◌^◌, IfOk};
 
-use crate::answers::{push_implies, push_rest, push_unsat, push_value};
+use crate::answers::{push_implies, push_rest, push_substituted, push_unsat, push_value};
 use crate::boxes::agrees;
 use crate::formulas::{NoRow, quantified, simple, with_divisor_0};
+use hs_pure::Pure;
 use std::alloc::Global;
 use std::str;
 
@@ -50,6 +51,18 @@ fn push_elimination(alloc: Global, out: &mut String, row: &str) -> Result<(), No
     push_rest(alloc, out, &f, atoms)
 }
 
+fn push_substitution(alloc: Global, out: &mut String, row: &str) -> Result<(), NoRow> {
+    let Some((equation, f)) = row.split_once(" in ") else {
+        return Err(NoRow);
+    };
+    let equation = Box::new(alloc, simple(alloc, equation)?)?;
+    let f = Box::new(alloc, simple(alloc, f)?)?;
+    match &*equation {
+        Pure::Eq(_, term) => push_substituted(alloc, out, &f, term),
+        _ => Err(NoRow),
+    }
+}
+
 fn push_witness(alloc: Global, out: &mut String, row: &str) -> Result<(), NoRow> {
     let (budget, rest) = word(row)?;
     let (y, f) = word(rest)?;
@@ -86,6 +99,7 @@ fn push_row(alloc: Global, out: &mut String, row: &str) -> Result<(), NoRow> {
         "implies" => push_question(alloc, out, rest),
         "unsat" => push_truth(alloc, out, rest),
         "eliminate" => push_elimination(alloc, out, rest),
+        "substitute" => push_substitution(alloc, out, rest),
         "witness" => push_witness(alloc, out, rest),
         "box" => push_box(alloc, out, rest),
         "box0" => push_box_or_0(alloc, out, rest),

@@ -11,7 +11,7 @@ use Rattle.hs_elimination.specs.Linear.{minus, IsWideLin}
 use Rattle.hs_substitute.proofs.Parts.{and_member}
 use Rattle.hs_unit.specs.declared.sides.Kind.{Kind}
 use Rattle.hs_unit.specs.declared.sides.Kind.TheVariants.{Zero, Below, Most}
-use Rattle.hs_unit.specs.Sides.{Comparison, forms, joined, left_forms, right_forms, right_list, only_list, is_zero, are_zero, HasWideForm}
+use Rattle.hs_unit.specs.Sides.{Comparison, forms, joined, left_forms, comparisons, all_comparisons, only_comparisons, is_zero, are_zero, HasWideForm}
 use Rattle.hs_unit.specs.Reduction.{all_small, is_small}
 use Rattle.hs_unit.proofs.Smalls.{wide_not_small}
 use Rattle.hs_unit.proofs.Steps.{some_is}
@@ -39,19 +39,19 @@ joined-assoc (Some xs) None q = refl
 joined-assoc (Some xs) (Some ys) None = refl
 joined-assoc (Some xs) (Some ys) (Some zs) = ap (λ (ws : List _). Some ws) (append_assoc xs ys zs)
 
-fold-right : (p : Assertion) (ps : List Assertion) → right_forms (fold both p ps) ≡ joined (right_forms p) (right_list ps)
-fold-right p [] = sym (joined-nil (right_forms p))
-fold-right p (q ∷ ps) = fold-right (both p q) ps ∙ joined-assoc (right_forms p) (right_forms q) (right_list ps)
+fold-right : (p : Assertion) (ps : List Assertion) → comparisons (fold both p ps) ≡ joined (comparisons p) (all_comparisons ps)
+fold-right p [] = sym (joined-nil (comparisons p))
+fold-right p (q ∷ ps) = fold-right (both p q) ps ∙ joined-assoc (comparisons p) (comparisons q) (all_comparisons ps)
 
-right-every : (ps : List Assertion) → right_forms (every ps) ≡ right_list ps
+right-every : (ps : List Assertion) → comparisons (every ps) ≡ all_comparisons ps
 right-every [] = refl
 right-every (p ∷ ps) = fold-right p ps
 
-fold-none : (p : Assertion) (ps : List Assertion) → right_forms p ≡ None → right_forms (fold either p ps) ≡ None
+fold-none : (p : Assertion) (ps : List Assertion) → comparisons p ≡ None → comparisons (fold either p ps) ≡ None
 fold-none p [] h = h
 fold-none p (q ∷ ps) h = fold-none (either p q) ps refl
 
-right-some : (ps : List Assertion) → right_forms (some ps) ≡ only_list ps
+right-some : (ps : List Assertion) → comparisons (some ps) ≡ only_comparisons ps
 right-some [] = refl
 right-some (p ∷ []) = refl
 right-some (p ∷ q ∷ ps) = fold-none (either p q) ps refl
@@ -60,11 +60,11 @@ abbrev Result' : Type 0
 Result' = Option (List Comparison)
 
 module _ (p : Pure) (o r : Result') where
-  pub right-And : (ps : List Pure) → p ≡ pure_of.And ps → joined o (right_list (map assertion_of ps)) ≡ r → joined o (right_forms (assertion_of p)) ≡ r
-  right-And ps is h = ap (joined o) (ap right_forms (ap assertion_of is ∙ fold-And pure_level ps) ∙ right-every (map assertion_of ps)) ∙ h
+  pub right-And : (ps : List Pure) → p ≡ pure_of.And ps → joined o (all_comparisons (map assertion_of ps)) ≡ r → joined o (comparisons (assertion_of p)) ≡ r
+  right-And ps is h = ap (joined o) (ap comparisons (ap assertion_of is ∙ fold-And pure_level ps) ∙ right-every (map assertion_of ps)) ∙ h
 
-  pub right-Or : (ps : List Pure) → p ≡ pure_of.Or ps → joined o (only_list (map assertion_of ps)) ≡ r → joined o (right_forms (assertion_of p)) ≡ r
-  right-Or ps is h = ap (joined o) (ap right_forms (ap assertion_of is ∙ fold-Or pure_level ps) ∙ right-some (map assertion_of ps)) ∙ h
+  pub right-Or : (ps : List Pure) → p ≡ pure_of.Or ps → joined o (only_comparisons (map assertion_of ps)) ≡ r → joined o (comparisons (assertion_of p)) ≡ r
+  right-Or ps is h = ap (joined o) (ap comparisons (ap assertion_of is ∙ fold-Or pure_level ps) ∙ right-some (map assertion_of ps)) ∙ h
 
 pub wide-And : (p : Pure) (ps : List Pure) → p ≡ pure_of.And ps → ((q : Pure) × (Contains ps q × HasWideForm (assertion_of q))) → HasWideForm (assertion_of p)
 wide-And = and_member HasWideForm (λ p q. inl) (λ p q. inr)
@@ -93,16 +93,16 @@ small-right (x ∷ xs) ys h = and_false (is_small x.1) (all_small (forms (xs ++ 
 one-wide : (k : Kind) (a b : Lin) (cs : List Comparison) → ◌≡◌ {A = Option (List Comparison)} (Some ((k, minus a b) ∷ [])) (Some cs) → IsWideLin (minus a b) → all_small (forms cs) ≡ false
 one-wide k a b cs h w = subst (λ (ds : List Comparison). all_small (forms ds) ≡ false) (some_is _ _ h) (ap (λ (c : Bool). c && true) (wide_not_small (minus a b) w))
 
-pub wide-small : (p : Assertion) (cs : List Comparison) → right_forms p ≡ Some cs → HasWideForm p → all_small (forms cs) ≡ false
+pub wide-small : (p : Assertion) (cs : List Comparison) → comparisons p ≡ Some cs → HasWideForm p → all_small (forms cs) ≡ false
 wide-small truth cs h w = absurd w
 wide-small (eq a b) cs h w = one-wide Zero a b cs h w
 wide-small (lt a b) cs h w = one-wide Below a b cs h w
 wide-small (le a b) cs h w = one-wide Most a b cs h w
 wide-small (both p q) cs h (inl w) =
-    let j = joined_is (right_forms p) (right_forms q) cs h in
+    let j = joined_is (comparisons p) (comparisons q) cs h in
     subst (λ (ds : List Comparison). all_small (forms ds) ≡ false) j.4 (small-left j.0 j.1 (wide-small p j.0 j.2 w))
 wide-small (both p q) cs h (inr w) =
-    let j = joined_is (right_forms p) (right_forms q) cs h in
+    let j = joined_is (comparisons p) (comparisons q) cs h in
     subst (λ (ds : List Comparison). all_small (forms ds) ≡ false) j.4 (small-right j.0 j.1 (wide-small q j.1 j.3 w))
 wide-small (divides d a) cs h w = absurd w
 wide-small (bag_eq a b) cs h w = absurd w
@@ -142,7 +142,7 @@ equations-joined (Some xs) (Some ys) = by_tests (are_zero xs) (are_zero ys) (zer
     by_tests true false e = (λ i. cond {A = Option (List Lin)} (e i) (Some (forms (xs ++ ys))) None)
     by_tests false b e = (λ i. cond {A = Option (List Lin)} (e i) (Some (forms (xs ++ ys))) None)
 
-pub left-equations : (p : Assertion) → left_forms p ≡ equations (right_forms p)
+pub left-equations : (p : Assertion) → left_forms p ≡ equations (comparisons p)
 left-equations truth = refl
 left-equations (eq a b) = refl
 left-equations (lt a b) = refl
@@ -153,7 +153,7 @@ left-equations (subset a b) = refl
 left-equations (member a b) = refl
 left-equations (all_of u b p) = refl
 left-equations (negation p) = refl
-left-equations (both p q) = (λ i. joined (left-equations p i) (left-equations q i)) ∙ sym (equations-joined (right_forms p) (right_forms q))
+left-equations (both p q) = (λ i. joined (left-equations p i) (left-equations q i)) ∙ sym (equations-joined (comparisons p) (comparisons q))
 left-equations (either p q) = refl
 left-equations (exists u p) = refl
 left-equations (forall u p) = refl

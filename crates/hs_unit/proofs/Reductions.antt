@@ -3,29 +3,29 @@ use Rattle.std.proofs.Common.{◌≡◌, Bool, true, false, cond, ◌⊎◌, inl
 use Rattle.hs_pure.specs.declared.lin.Lin.{Lin}
 use Rattle.hs_pure.specs.Assertion.{Assertion}
 use Rattle.hs_unit.specs.declared.reduction.Reduction.{Reduction}
-use Rattle.hs_unit.specs.Sides.{Comparison, forms, right_forms, are_zero, HasWideForm}
+use Rattle.hs_unit.specs.Sides.{Comparison, forms, comparisons, are_zero, HasWideForm}
 use Rattle.hs_unit.specs.Reduction.{all_small, steps, start, reduced}
 use Rattle.hs_unit.specs.Question.{reduced_sides, reduction}
 use Rattle.hs_unit.proofs.Members.{left-equations, equations, wide-small, and_false}
 
 module _ (a b : Assertion) where
-  by_sides : (o : Option (List Comparison)) → right_forms a ≡ o → (p : Option (List Comparison)) → right_forms b ≡ p → reduction a b ≡ reduced_sides (equations o) p
+  by_sides : (o : Option (List Comparison)) → comparisons a ≡ o → (p : Option (List Comparison)) → comparisons b ≡ p → reduction a b ≡ reduced_sides (equations o) p
   by_sides o e p f = λ i. reduced_sides ((left-equations a ∙ ap equations e) i) (f i)
 
-  left-none : right_forms a ≡ None → reduction a b ≡ None
-  left-none e = by_sides None e (right_forms b) refl
+  left-none : comparisons a ≡ None → reduction a b ≡ None
+  left-none e = by_sides None e (comparisons b) refl
 
   none_of : (o : Option (List Lin)) → reduced_sides o None ≡ None
   none_of None = refl
   none_of (Some fs) = refl
 
-  right-none : right_forms b ≡ None → reduction a b ≡ None
-  right-none e = by_sides (right_forms a) refl None e ∙ none_of (equations (right_forms a))
+  right-none : comparisons b ≡ None → reduction a b ≡ None
+  right-none e = by_sides (comparisons a) refl None e ∙ none_of (equations (comparisons a))
 
-  pub not-zero : (cs : List Comparison) → right_forms a ≡ Some cs → are_zero cs ≡ false → reduction a b ≡ None
-  not-zero cs e z = by_sides (Some cs) e (right_forms b) refl ∙ (λ i. reduced_sides (cond {A = Option (List Lin)} (z i) (Some (forms cs)) None) (right_forms b))
+  pub not-zero : (cs : List Comparison) → comparisons a ≡ Some cs → are_zero cs ≡ false → reduction a b ≡ None
+  not-zero cs e z = by_sides (Some cs) e (comparisons b) refl ∙ (λ i. reduced_sides (cond {A = Option (List Lin)} (z i) (Some (forms cs)) None) (comparisons b))
 
-  pub reduction-is : (cs ds : List Comparison) → right_forms a ≡ Some cs → are_zero cs ≡ true → right_forms b ≡ Some ds → reduction a b ≡ reduced (forms cs) ds
+  pub reduction-is : (cs ds : List Comparison) → comparisons a ≡ Some cs → are_zero cs ≡ true → comparisons b ≡ Some ds → reduction a b ≡ reduced (forms cs) ds
   reduction-is cs ds e z f = by_sides (Some cs) e (Some ds) f ∙ (λ i. reduced_sides (cond {A = Option (List Lin)} (z i) (Some (forms cs)) None) (Some ds))
 
   not_both : (fs : List Lin) (ds : List Comparison) (c : Bool) → c ≡ false → cond c (steps (length fs) (start fs ds) fs) None ≡ None
@@ -36,23 +36,23 @@ module _ (a b : Assertion) where
   first_false false d h = refl
 
   -- where a form is wide, all of them are not small
-  not_small : ((cs ds : List Comparison) → right_forms a ≡ Some cs → right_forms b ≡ Some ds → (all_small (forms cs) && all_small (forms ds)) ≡ false) → reduction a b ≡ None
-  not_small large = by_left (right_forms a) refl (right_forms b) refl
+  not_small : ((cs ds : List Comparison) → comparisons a ≡ Some cs → comparisons b ≡ Some ds → (all_small (forms cs) && all_small (forms ds)) ≡ false) → reduction a b ≡ None
+  not_small large = by_left (comparisons a) refl (comparisons b) refl
     where
-      by_zero : (cs ds : List Comparison) → right_forms a ≡ Some cs → right_forms b ≡ Some ds → (z : Bool) → are_zero cs ≡ z → reduction a b ≡ None
+      by_zero : (cs ds : List Comparison) → comparisons a ≡ Some cs → comparisons b ≡ Some ds → (z : Bool) → are_zero cs ≡ z → reduction a b ≡ None
       by_zero cs ds e f true z = reduction-is cs ds e z f ∙ not_both (forms cs) ds (all_small (forms cs) && all_small (forms ds)) (large cs ds e f)
       by_zero cs ds e f false z = not-zero cs e z
 
-      by_left : (o : Option (List Comparison)) → right_forms a ≡ o → (p : Option (List Comparison)) → right_forms b ≡ p → reduction a b ≡ None
+      by_left : (o : Option (List Comparison)) → comparisons a ≡ o → (p : Option (List Comparison)) → comparisons b ≡ p → reduction a b ≡ None
       by_left None e p f = left-none e
       by_left (Some cs) e None f = right-none f
       by_left (Some cs) e (Some ds) f = by_zero cs ds e f (are_zero cs) refl
 
-  pub no-left : ((right_forms a ≡ None) ⊎ HasWideForm a) → reduction a b ≡ None
+  pub no-left : ((comparisons a ≡ None) ⊎ HasWideForm a) → reduction a b ≡ None
   no-left (inl e) = left-none e
   no-left (inr w) = not_small (λ cs ds e f. first_false (all_small (forms cs)) (all_small (forms ds)) (wide-small a cs e w))
 
-  pub no-right : ((right_forms b ≡ None) ⊎ HasWideForm b) → reduction a b ≡ None
+  pub no-right : ((comparisons b ≡ None) ⊎ HasWideForm b) → reduction a b ≡ None
   no-right (inl e) = right-none e
   no-right (inr w) = not_small (λ cs ds e f. and_false (all_small (forms cs)) (all_small (forms ds)) (wide-small b ds f w))
 
@@ -60,12 +60,12 @@ module _ (a b : Assertion) where
 
 -- what the program finds of a side
 abbrev pub IsSide : Assertion → Option (List Comparison) → Type 0
-IsSide p o = MatchOption o ((right_forms p ≡ None) ⊎ HasWideForm p) (λ cs. right_forms p ≡ Some cs)
+IsSide p o = MatchOption o ((comparisons p ≡ None) ⊎ HasWideForm p) (λ cs. comparisons p ≡ Some cs)
 
-found_none : (p : Assertion) (o : Option (List Comparison)) → IsSide p o → o ≡ None → (right_forms p ≡ None) ⊎ HasWideForm p
+found_none : (p : Assertion) (o : Option (List Comparison)) → IsSide p o → o ≡ None → (comparisons p ≡ None) ⊎ HasWideForm p
 found_none p o h e = subst (IsSide p) e h
 
-pub found_some : (p : Assertion) (o : Option (List Comparison)) (cs : List Comparison) → IsSide p o → o ≡ Some cs → right_forms p ≡ Some cs
+pub found_some : (p : Assertion) (o : Option (List Comparison)) (cs : List Comparison) → IsSide p o → o ≡ Some cs → comparisons p ≡ Some cs
 found_some p o cs h e = subst (IsSide p) e h
 
 module _ (a b : Assertion) where

@@ -10,7 +10,7 @@ use Rattle.hs_elimination.specs.Linear.{minus, times}
 use Rattle.hs_elimination.proofs.Meaning.{Assignment, RisesFrom, HasRising, value}
 use Rattle.hs_elimination.proofs.Rising.{rises-merge, rises-scale}
 use Rattle.hs_elimination.proofs.Values.{value-plus, value-times}
-use Rattle.hs_unit.specs.Sides.{Comparison, forms, left_forms, right_forms}
+use Rattle.hs_unit.specs.Sides.{Comparison, forms, left_forms, comparisons}
 use Rattle.hs_unit.proofs.Zeros.{AllRise, rise-append, rise-forms, Zeros, zeros-append, zeros-parts, AllMeet, meet-append, meet-parts}
 use Rattle.hs_unit.proofs.Members.{joined_is}
 use Rattle.hs_unit.proofs.Steps.{some_is}
@@ -73,7 +73,7 @@ module _ (st : Stack) (s : Assignment) (same : (a : Lin) → Truth.value st a �
   left_true (forall u p) fs h t = absurd cc
 
   -- the right side is true where its forms are as their kinds say
-  pub right_true : (p : Assertion) (cs : List Comparison) → right_forms p ≡ Some cs → AllMeet s cs → IsTrueAt st p
+  pub right_true : (p : Assertion) (cs : List Comparison) → comparisons p ≡ Some cs → AllMeet s cs → IsTrueAt st p
   right_true truth cs h m = tt
   right_true (eq a b) cs h m =
       let k = subst (AllMeet s) (sym (some_is _ _ h)) m in
@@ -88,7 +88,7 @@ module _ (st : Stack) (s : Assignment) (same : (a : Lin) → Truth.value st a �
       let e : (Truth.value st a +ℤ neg_ℤ (Truth.value st b)) ≤ℤ pos 0 = subst (λ z. z ≤ℤ pos 0) (difference a b) k.0 in
       omega (arith, ints, e)
   right_true (both p q) cs h m =
-      let j = joined_is (right_forms p) (right_forms q) cs h in
+      let j = joined_is (comparisons p) (comparisons q) cs h in
       let k = meet-parts s j.0 j.1 (subst (AllMeet s) (sym j.4) m) in
       (right_true p j.0 j.2 k.0, right_true q j.1 j.3 k.1)
   right_true (divides d a) cs h m = absurd cc
@@ -102,13 +102,13 @@ module _ (st : Stack) (s : Assignment) (same : (a : Lin) → Truth.value st a �
   right_true (forall u p) cs h m = absurd cc
 
   -- and where it is true, they are
-  pub right_meet : (p : Assertion) (cs : List Comparison) → right_forms p ≡ Some cs → IsTrueAt st p → AllMeet s cs
+  pub right_meet : (p : Assertion) (cs : List Comparison) → comparisons p ≡ Some cs → IsTrueAt st p → AllMeet s cs
   right_meet truth cs h t = subst (AllMeet s) (some_is _ _ h) tt
   right_meet (eq a b) cs h t = subst (AllMeet s) (some_is _ _ h) (difference a b ∙ omega (arith, ints, t), tt)
   right_meet (lt a b) cs h t = subst (AllMeet s) (some_is _ _ h) (subst (λ z. z <ℤ pos 0) (sym (difference a b)) (omega (arith, ints, t)), tt)
   right_meet (le a b) cs h t = subst (AllMeet s) (some_is _ _ h) (subst (λ z. z ≤ℤ pos 0) (sym (difference a b)) (omega (arith, ints, t)), tt)
   right_meet (both p q) cs h t =
-      let j = joined_is (right_forms p) (right_forms q) cs h in
+      let j = joined_is (comparisons p) (comparisons q) cs h in
       subst (AllMeet s) j.4 (meet-append s j.0 j.1 (right_meet p j.0 j.2 t.0) (right_meet q j.1 j.3 t.1))
   right_meet (divides d a) cs h m = absurd cc
   right_meet (bag_eq a b) cs h m = absurd cc
@@ -146,13 +146,13 @@ left_rise (either p q) fs h t = absurd cc
 left_rise (exists u p) fs h t = absurd cc
 left_rise (forall u p) fs h t = absurd cc
 
-pub right_rise : (p : Assertion) (cs : List Comparison) → right_forms p ≡ Some cs → HasRising p → AllRise (forms cs)
+pub right_rise : (p : Assertion) (cs : List Comparison) → comparisons p ≡ Some cs → HasRising p → AllRise (forms cs)
 right_rise truth cs h r = subst (λ (ds : List Comparison). AllRise (forms ds)) (some_is _ _ h) tt
 right_rise (eq a b) cs h r = subst (λ (ds : List Comparison). AllRise (forms ds)) (some_is _ _ h) (rises-minus a b r.0 r.1, tt)
 right_rise (lt a b) cs h r = subst (λ (ds : List Comparison). AllRise (forms ds)) (some_is _ _ h) (rises-minus a b r.0 r.1, tt)
 right_rise (le a b) cs h r = subst (λ (ds : List Comparison). AllRise (forms ds)) (some_is _ _ h) (rises-minus a b r.0 r.1, tt)
 right_rise (both p q) cs h r =
-    let j = joined_is (right_forms p) (right_forms q) cs h in
+    let j = joined_is (comparisons p) (comparisons q) cs h in
     subst (λ (ds : List Comparison). AllRise (forms ds)) j.4 (rise-forms j.0 j.1 (right_rise p j.0 j.2 r.0) (right_rise q j.1 j.3 r.1))
 right_rise (divides d a) cs h m = absurd cc
 right_rise (bag_eq a b) cs h m = absurd cc

@@ -13,7 +13,7 @@ use Rattle.hs_elimination.proofs.Stacks.{numbers, value-is}
 use Rattle.hs_unit.specs.declared.reduction.Reduction.{Reduction}
 use Rattle.hs_unit.specs.declared.settled.Settled.{Settled}
 use Rattle.hs_unit.specs.declared.settled.Settled.TheVariants.{Yes, No}
-use Rattle.hs_unit.specs.Sides.{Comparison, forms, left_forms, right_forms}
+use Rattle.hs_unit.specs.Sides.{Comparison, forms, left_forms, comparisons}
 use Rattle.hs_unit.specs.Reduction.{all_small}
 use Rattle.hs_unit.specs.Question.{reduced_sides, reduction, IsUnitQuestion}
 use Rattle.hs_unit.specs.Settling.{IfNo, clash, are_settled, denied, counterexample, settlement, settlement_of, verdict}
@@ -69,10 +69,10 @@ module _ (left : List Lin) (right : List Comparison) (r : Reduction) (h : IsRedu
 
 module _ (a b : Assertion) (oa : AssertionIsOrdered a) (ob : AssertionIsOrdered b) where
   -- the forms of a question with a reduction
-  reduction_of : (r : Reduction) → reduction a b ≡ Some r → (left : List Lin) × (right : List Comparison) × (left_forms a ≡ Some left) × (right_forms b ≡ Some right) × IsReduced left right r × (r.later ≡ [])
-  reduction_of r e = by_forms (left_forms a) (right_forms b) refl refl e
+  reduction_of : (r : Reduction) → reduction a b ≡ Some r → (left : List Lin) × (right : List Comparison) × (left_forms a ≡ Some left) × (comparisons b ≡ Some right) × IsReduced left right r × (r.later ≡ [])
+  reduction_of r e = by_forms (left_forms a) (comparisons b) refl refl e
     where
-      by_forms : (o : Option (List Lin)) (p : Option (List Comparison)) → left_forms a ≡ o → right_forms b ≡ p → reduced_sides o p ≡ Some r → (left : List Lin) × (right : List Comparison) × (left_forms a ≡ Some left) × (right_forms b ≡ Some right) × IsReduced left right r × (r.later ≡ [])
+      by_forms : (o : Option (List Lin)) (p : Option (List Comparison)) → left_forms a ≡ o → comparisons b ≡ p → reduced_sides o p ≡ Some r → (left : List Lin) × (right : List Comparison) × (left_forms a ≡ Some left) × (comparisons b ≡ Some right) × IsReduced left right r × (r.later ≡ [])
       by_forms None p eo ep k = absurd cc
       by_forms (Some left) None eo ep k = absurd cc
       by_forms (Some left) (Some right) eo ep k =
@@ -118,3 +118,15 @@ verdict-told a b = by_reduction (reduction a b) refl
         none_some : (r : Reduction) → ◌≡◌ {A = Option Reduction} None (Some r) → ⊥
         none_some r k = cc
     by_reduction (Some r) e = (r, e)
+
+-- its values are of numbers
+pub verdict-bags : (a b : Assertion) → IfNo (verdict a b) (λ v. v.bags ≡ [])
+verdict-bags a b = by_reduction (reduction a b)
+  where
+    by_answer : (r : Reduction) (c : Bool) → IfNo (Some (cond c Yes (No (counterexample r)))) (λ v. v.bags ≡ [])
+    by_answer r true = tt
+    by_answer r false = refl
+
+    by_reduction : (o : Option Reduction) → IfNo (settlement_of o) (λ v. v.bags ≡ [])
+    by_reduction None = tt
+    by_reduction (Some r) = by_answer r (clash r.taken || are_settled r.right)

@@ -3,7 +3,7 @@ use Rattle.std.specs.Prelude.{◌≡◌, List, Option, None, Some}
 use Rattle.hs_pure.specs.declared.lin.Lin.{Lin}
 use Rattle.hs_pure.specs.Assertion.{Assertion}
 use Rattle.hs_unit.specs.declared.reduction.Reduction.{Reduction}
-use Rattle.hs_unit.specs.Sides.{Comparison, left_forms, right_forms}
+use Rattle.hs_unit.specs.Sides.{Comparison, left_forms, comparisons}
 use Rattle.hs_unit.specs.Reduction.{reduced}
 
 -- the reduction of the forms of both sides, where they are there
@@ -13,7 +13,7 @@ reduced_sides (Some left) None = None
 reduced_sides (Some left) (Some right) = reduced left right
 
 abbrev pub reduction : Assertion → Assertion → Option Reduction
-reduction a b = reduced_sides (left_forms a) (right_forms b)
+reduction a b = reduced_sides (left_forms a) (comparisons b)
 
 -- whether a implies b is a unit question: each equation of a is solved in its turn
 abbrev pub IsUnitQuestion : Assertion → Assertion → Type 0

@@ -36,34 +36,34 @@ left_forms (exists u p) = None
 left_forms (forall u p) = None
 
 -- a comparison or those of a conjunction, in order
-abbrev pub right_forms : Assertion → Option (List Comparison)
-right_forms truth = Some []
-right_forms (eq a b) = Some ((Zero, minus a b) ∷ [])
-right_forms (lt a b) = Some ((Below, minus a b) ∷ [])
-right_forms (le a b) = Some ((Most, minus a b) ∷ [])
-right_forms (divides d a) = None
-right_forms (bag_eq a b) = None
-right_forms (subset a b) = None
-right_forms (member a b) = None
-right_forms (all_of u b p) = None
-right_forms (negation p) = None
-right_forms (both p q) = joined (right_forms p) (right_forms q)
-right_forms (either p q) = None
-right_forms (exists u p) = None
-right_forms (forall u p) = None
+abbrev pub comparisons : Assertion → Option (List Comparison)
+comparisons truth = Some []
+comparisons (eq a b) = Some ((Zero, minus a b) ∷ [])
+comparisons (lt a b) = Some ((Below, minus a b) ∷ [])
+comparisons (le a b) = Some ((Most, minus a b) ∷ [])
+comparisons (divides d a) = None
+comparisons (bag_eq a b) = None
+comparisons (subset a b) = None
+comparisons (member a b) = None
+comparisons (all_of u b p) = None
+comparisons (negation p) = None
+comparisons (both p q) = joined (comparisons p) (comparisons q)
+comparisons (either p q) = None
+comparisons (exists u p) = None
+comparisons (forall u p) = None
 
 -- ---- parts
 
 -- those of the members of a conjunction
-abbrev pub right_list : List Assertion → Option (List Comparison)
-right_list [] = Some []
-right_list (p ∷ ps) = joined (right_forms p) (right_list ps)
+abbrev pub all_comparisons : List Assertion → Option (List Comparison)
+all_comparisons [] = Some []
+all_comparisons (p ∷ ps) = joined (comparisons p) (all_comparisons ps)
 
 -- those of the one member of a list
-abbrev pub only_list : List Assertion → Option (List Comparison)
-only_list [] = None
-only_list (p ∷ []) = right_forms p
-only_list (p ∷ q ∷ ps) = None
+abbrev pub only_comparisons : List Assertion → Option (List Comparison)
+only_comparisons [] = None
+only_comparisons (p ∷ []) = comparisons p
+only_comparisons (p ∷ q ∷ ps) = None
 
 abbrev pub is_zero : Kind → Bool
 is_zero Zero = true

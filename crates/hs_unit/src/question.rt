@@ -1,12 +1,12 @@
 //! Unit questions.
 
-ghost use Rattle.std.specs.Prelude.{◌≡◌, ◌⊎◌, true, None, Some, IfOk, MatchOption};
+ghost use Rattle.std.specs.Prelude.{◌≡◌, ◌⊎◌, [], true, None, Some, IfOk, MatchOption};
 ghost use Rattle.hs_pure.specs.Assertion.{assertion_of};
 ghost use Rattle.hs_pure.specs.Eval.{stack_of};
 ghost use Rattle.hs_pure.specs.Stack.{Stack};
 ghost use Rattle.hs_pure.specs.Sums.{IsOrdered};
 ghost use Rattle.hs_pure.specs.Truth.{TrueAt};
-ghost use Rattle.hs_unit.specs.Sides.{forms, right_forms, are_zero, HasWideForm};
+ghost use Rattle.hs_unit.specs.Sides.{forms, comparisons, are_zero, HasWideForm};
 ghost use Rattle.hs_unit.specs.Reduction.{all_small, reduced};
 ghost use Rattle.hs_unit.specs.Question.{reduction, IsUnitQuestion};
 ghost use Rattle.hs_unit.specs.Settling.{clash, are_settled, settlement, verdict, IfNo};
@@ -22,20 +22,22 @@ use sqlite_items::Items;
 use std::alloc::Global;
 
 /// Whether `a` implies `b` at all stacks, where that is a unit question, and none where it is not. The terms of their
-/// sums are in order. `NoMemory` comes where there is none.
+/// sums are in order. The values of a `No` are numbers, and a variable that they do not name is 0.
+/// `NoMemory` comes where there is none.
 pub fn unit(alloc: Global, a: &Pure, b: &Pure) -> Result<Option<Settled>, NoMemory>
     requires left_ordered { IsOrdered a.now }
     requires right_ordered { IsOrdered b.now }
     ensures told { IfOk result (λ o. MatchOption o (¬ (IsUnitQuestion (assertion_of a.now) (assertion_of b.now))) (λ _. IsUnitQuestion (assertion_of a.now) (assertion_of b.now))) }
     ensures yes { IfOk result (λ o. o ≡ Some Yes → (s : Stack) → TrueAt s a.now → TrueAt s b.now) }
     ensures no { IfOk result (λ o. IfNo o (λ v. TrueAt (stack_of v) a.now × (¬ (TrueAt (stack_of v) b.now)))) }
+    ensures bags { IfOk result (λ o. IfNo o (λ v. v.bags ≡ [])) }
 {
     decided(alloc, a, b)
 }
 
 // The comparisons of a side, if it has such and none passes 128 bits.
 fn side(alloc: Global, p: &Pure) -> Result<Option<Items<(Kind, Lin)>>, NoMemory>
-    ensures { IfOk result (λ o. MatchOption o ((right_forms (assertion_of p.now) ≡ None) ⊎ HasWideForm (assertion_of p.now)) (λ cs. right_forms (assertion_of p.now) ≡ Some cs)) }
+    ensures { IfOk result (λ o. MatchOption o ((comparisons (assertion_of p.now) ≡ None) ⊎ HasWideForm (assertion_of p.now)) (λ cs. comparisons (assertion_of p.now) ≡ Some cs)) }
 {
     match comparisons(alloc, p) {
         Ok(side) => Ok(side),

@@ -5,7 +5,7 @@ ghost use Rattle.std.specs.List.{Contains};
 ghost use Rattle.hs_pure.specs.declared.pure.Pure.{Pure};
 ghost use Rattle.hs_pure.specs.Assertion.{assertion_of};
 ghost use Rattle.hs_elimination.specs.Linear.{minus, IsWideLin};
-ghost use Rattle.hs_unit.specs.Sides.{right_forms, right_list, only_list, joined, forms, are_zero, HasWideForm};
+ghost use Rattle.hs_unit.specs.Sides.{comparisons, all_comparisons, only_comparisons, joined, forms, are_zero, HasWideForm};
 ghost use Rattle.hs_cooper_forms.specs.declared.refusal.Refusal.TheVariants.{Wide};
 
 use hs_cooper_forms::Refusal;
@@ -44,7 +44,7 @@ fn push(
 // Adds the comparisons of a comparison or of a conjunction of such; false where the formula is something else.
 #[cycle(collect)]
 fn collect(alloc: Global, all: &mut Items<(Kind, Lin)>, p: &Pure) -> Result<bool, Refusal>
-    ensures forms { IfOk result (λ r. joined (Some all.old) (right_forms (assertion_of p.now)) ≡ (if r then Some all.new else None)) }
+    ensures forms { IfOk result (λ r. joined (Some all.old) (comparisons (assertion_of p.now)) ≡ (if r then Some all.new else None)) }
     ensures wide { IsErrOf result Wide → HasWideForm (assertion_of p.now) }
 {
     match p {
@@ -66,7 +66,7 @@ fn collect(alloc: Global, all: &mut Items<(Kind, Lin)>, p: &Pure) -> Result<bool
 
 #[cycle(collect)]
 fn collect_all(alloc: Global, all: &mut Items<(Kind, Lin)>, ps: &[Pure]) -> Result<bool, Refusal>
-    ensures forms { IfOk result (λ r. joined (Some all.old) (right_list (map assertion_of ps.now)) ≡ (if r then Some all.new else None)) }
+    ensures forms { IfOk result (λ r. joined (Some all.old) (all_comparisons (map assertion_of ps.now)) ≡ (if r then Some all.new else None)) }
     ensures wide { IsErrOf result Wide → ((p : Pure) × (Contains ps.now p × HasWideForm (assertion_of p))) }
 {
     for p in ps {
@@ -80,7 +80,7 @@ fn collect_all(alloc: Global, all: &mut Items<(Kind, Lin)>, ps: &[Pure]) -> Resu
 // Of a list with one member; false where there is another.
 #[cycle(collect)]
 fn collect_only(alloc: Global, all: &mut Items<(Kind, Lin)>, ps: &[Pure]) -> Result<bool, Refusal>
-    ensures forms { IfOk result (λ r. joined (Some all.old) (only_list (map assertion_of ps.now)) ≡ (if r then Some all.new else None)) }
+    ensures forms { IfOk result (λ r. joined (Some all.old) (only_comparisons (map assertion_of ps.now)) ≡ (if r then Some all.new else None)) }
     ensures wide { IsErrOf result Wide → ((p : Pure) × ((ps.now ≡ p ∷ []) × HasWideForm (assertion_of p))) }
 {
     let Some((p, rest)) = ps.split_first() else {
@@ -94,7 +94,7 @@ fn collect_only(alloc: Global, all: &mut Items<(Kind, Lin)>, ps: &[Pure]) -> Res
 
 // The comparisons of a side, in order; none where it is something else.
 pub(crate) fn comparisons(alloc: Global, p: &Pure) -> Result<Option<Items<(Kind, Lin)>>, Refusal>
-    ensures forms { IfOk result (λ o. o ≡ right_forms (assertion_of p.now)) }
+    ensures forms { IfOk result (λ o. o ≡ comparisons (assertion_of p.now)) }
     ensures wide { IsErrOf result Wide → HasWideForm (assertion_of p.now) }
 {
     let mut all = Items::new(alloc);

@@ -1,30 +1,24 @@
-use Rattle.std.proofs.Common.{◌≡◌, ◌<◌, IfOk, subst}
-use Rattle.hs_pure.specs.Eval.{stack_of}
-use Rattle.hs_cooper_forms.proofs.Changes.{ok_map}
-use Rattle.hs_decide.specs.declared.answer.Answer.TheVariants.{Atoms, Wide}
-use Rattle.hs_decide.specs.Answering.{IsDecided}
+use Rattle.std.proofs.Common.{◌≡◌, ◌<◌, IfOk, ap, ◌∙◌, subst}
+use Rattle.hs_pure.specs.Assertion.{assertion_of, truth, negation}
+use Rattle.hs_decide.specs.Question.{question}
 use Rattle.hs_decide.specs.Size.{size_of}
 use Rattle.hs_decide.specs.Span.{SpanIsWide, IsSpent}
-use Rattle.hs_decide.proofs.Questions.{bags-false, ordered-false, false_everywhere, true_side, if_no, question-false}
+use Rattle.hs_decide.specs.Answering.{IsDecided}
+use Rattle.hs_decide.specs.declared.answer.Answer.TheVariants.{Atoms, Wide}
+use Rattle.hs_decide.proofs.Questions.{falsehood_is}
 use Rattle.hs_decide.proofs.decide.unsat.Goals as goal
 
-pub answer-requires-clause-no_bags : goal.answer-requires-clause-no_bags
-answer-requires-clause-no_bags c = bags-false c.args.a.now c.new.result c.in_ok-question.question c.new.ensures c.in_ok-question.ensures c.requires.no_bags
-
-pub answer-requires-clause-ordered : goal.answer-requires-clause-ordered
-answer-requires-clause-ordered c = ordered-false c.args.a.now c.new.result c.in_ok-question.question c.new.ensures c.in_ok-question.ensures c.requires.ordered
-
-pub returns-clause-yes : goal.returns-clause-yes
-returns-clause-yes c = ok_map c.answer.result (λ r none is. false_everywhere c.args.a.now c.in_ok-question.question (question-false c.args.a.now c.new.result c.in_ok-question.question c.new.ensures c.in_ok-question.ensures) (none is)) c.answer.ensures.yes
-
-pub returns-clause-no : goal.returns-clause-no
-returns-clause-no c = ok_map c.answer.result (λ r. if_no r (λ v. true_side c.args.a.now c.in_ok-question.question (question-false c.args.a.now c.new.result c.in_ok-question.question c.new.ensures c.in_ok-question.ensures) (stack_of v))) c.answer.ensures.no
-
 pub returns-clause-atoms : goal.returns-clause-atoms
-returns-clause-atoms c = subst (λ q. IfOk c.answer.result (λ r. r ≡ Atoms → c.args.atoms < size_of q)) (question-false c.args.a.now c.new.result c.in_ok-question.question c.new.ensures c.in_ok-question.ensures) c.answer.ensures.atoms
+returns-clause-atoms c =
+    let false' : assertion_of c.get.result.now ≡ negation truth = ap assertion_of (c.get.ensures ∙ c.in_ok-never.ensures) ∙ falsehood_is in
+    subst (λ b. IfOk c.examined.result (λ r. r ≡ Atoms → c.args.atoms < size_of (question (assertion_of c.args.a.now) b))) false' c.examined.ensures.atoms
 
 pub returns-clause-wide : goal.returns-clause-wide
-returns-clause-wide c = subst (λ q. IfOk c.answer.result (λ r. r ≡ Wide → SpanIsWide q)) (question-false c.args.a.now c.new.result c.in_ok-question.question c.new.ensures c.in_ok-question.ensures) c.answer.ensures.wide
+returns-clause-wide c =
+    let false' : assertion_of c.get.result.now ≡ negation truth = ap assertion_of (c.get.ensures ∙ c.in_ok-never.ensures) ∙ falsehood_is in
+    subst (λ b. IfOk c.examined.result (λ r. r ≡ Wide → SpanIsWide (question (assertion_of c.args.a.now) b))) false' c.examined.ensures.wide
 
 pub returns-clause-decided : goal.returns-clause-decided
-returns-clause-decided c = subst (λ q. IfOk c.answer.result (λ r. (¬ (IsSpent c.args.atoms q)) → IsDecided r)) (question-false c.args.a.now c.new.result c.in_ok-question.question c.new.ensures c.in_ok-question.ensures) c.answer.ensures.decided
+returns-clause-decided c =
+    let false' : assertion_of c.get.result.now ≡ negation truth = ap assertion_of (c.get.ensures ∙ c.in_ok-never.ensures) ∙ falsehood_is in
+    subst (λ b. IfOk c.examined.result (λ r. (¬ (IsSpent c.args.atoms (question (assertion_of c.args.a.now) b))) → IsDecided r)) false' c.examined.ensures.decided

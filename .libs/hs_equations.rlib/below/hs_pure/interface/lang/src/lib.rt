@@ -1,0 +1,14 @@
+pub use bag :: Bag ;
+pub use hs_text :: NoMemory ;
+pub use lin :: Lin ;
+pub use pure :: Pure ;
+pub use valuation :: Valuation ;
+pub use var :: Var ;
+mod bag ;
+mod equality ;
+mod equated ;
+mod eval ;
+mod lin ;
+mod pure ;
+mod valuation ;
+mod var ;

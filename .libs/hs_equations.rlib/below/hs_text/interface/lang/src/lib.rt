@@ -1,0 +1,2 @@
+pub use memory :: NoMemory ;
+mod memory ;

@@ -1,0 +1,4 @@
+pub use boxed :: Boxed ;
+pub use items :: Items ;
+mod boxed ;
+mod items ;

@@ -1,0 +1,4 @@
+mod finding ;
+mod question ;
+pub use finding :: Finding ;
+pub use question :: examine ;

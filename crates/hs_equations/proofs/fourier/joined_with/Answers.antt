@@ -1,0 +1,6 @@
+use Rattle.hs_equations.proofs.Lists.{ok-map}
+use Rattle.hs_equations.proofs.Steps.{says-of}
+use Rattle.hs_equations.proofs.fourier.joined_with.Goals as goal
+
+pub returns-in-Least : goal.returns-in-Least
+returns-in-Least c = ok-map c.joined.result (λ r f s l h. f s l (says-of _ _ _ c.in-Least.is h)) c.joined.ensures

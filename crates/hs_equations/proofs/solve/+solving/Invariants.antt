@@ -1,0 +1,23 @@
+use Rattle.std.proofs.Common.{◌+◌, ◌*◌, take}
+use Rattle.std.specs.List.{All}
+use Rattle.hs_pure.specs.Stack.{Stack}
+use Rattle.hs_equations.specs.Claims.{IsClaimed, HoldsAll}
+use Rattle.hs_equations.proofs.solve.+solving.Given as goal
+
+abbrev pub decreases-solve : goal.decreases-solve
+decreases-solve l = 5 * l.depth + 2
+
+abbrev pub decreases-solve_at_rest : goal.decreases-solve_at_rest
+decreases-solve_at_rest l = 5 * l.depth + 1
+
+abbrev pub decreases-solve_split : goal.decreases-solve_split
+decreases-solve_split l = 5 * l.depth + 5
+
+abbrev pub decreases-solve_parts : goal.decreases-solve_parts
+decreases-solve_parts l = 5 * l.depth + 4
+
+abbrev pub decreases-solve_part : goal.decreases-solve_part
+decreases-solve_part l = 5 * l.depth + 3
+
+abbrev pub invariant-solve_parts-loop-claim : goal.invariant-solve_parts-loop-claim
+invariant-solve_parts-loop-claim l = (s : Stack) → HoldsAll s l.state → All (λ k. ¬ (IsClaimed s k)) (take l.claim-index l.claims)

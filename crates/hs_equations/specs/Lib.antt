@@ -1,0 +1,5 @@
+pub mod Rows
+pub mod Claims
+pub mod Searching
+pub mod Finding
+pub mod Towers
