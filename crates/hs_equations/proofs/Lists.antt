@@ -1,5 +1,5 @@
 -- What holds of each element of a list that is pushed to or popped from, and facts of results and tests.
-use Rattle.std.proofs.Common.{◌≡◌, ℕ, ◌<◌, Bool, true, false, List, [], ◌∷◌, ◌++◌, length, get_or, Option, Some, None, Result, Ok, Err, IfOk, IfSome, MatchOption, IsTrue, ◌↔◌, ◌⊎◌, inl, inr, refl, sym, ◌∙◌, subst}
+use Rattle.std.proofs.Common.{◌≡◌, ℕ, ◌<◌, Bool, true, false, not, List, [], ◌∷◌, ◌++◌, length, get_or, Option, Some, None, Result, Ok, Err, IfOk, IfSome, MatchOption, IsTrue, ◌↔◌, ◌⊎◌, inl, inr, refl, sym, ◌∙◌, subst}
 use Rattle.std.specs.List.{All}
 use Rattle.std.proofs.lemmas.Bool.{false≢true}
 use Rattle.std.proofs.lemmas.List.Elements.{All-push, All-pop, All-append, All-nil}
@@ -41,3 +41,7 @@ ok-map2 (Err e) f h k = tt
 pub told : (b : Bool) → (b ≡ true) ⊎ (b ≡ false)
 told true = inl refl
 told false = inr refl
+
+pub not-told : {P : Type 0} (b : Bool) → (IsTrue b ↔ P) → not b ≡ true → ¬ P
+not-told true h n p = false≢true n
+not-told false h n p = false≢true (h.1 p)

@@ -1,15 +1,12 @@
 //! Values that are tried on a question.
 
-ghost use Rattle.std.specs.Prelude.{◌≡◌, false, map};
+ghost use Rattle.std.specs.Prelude.{◌≡◌, ◌↔◌, map, IfSome, IsTrue};
 ghost use Rattle.std.specs.List.{list_any};
-ghost use Rattle.hs_pure.specs.Eval.{has_quantifiers};
-ghost use Rattle.hs_equations.specs.Finding.{IfRefuted, IsCounter};
-ghost use Rattle.hs_equations.specs.declared.finding.Finding.TheVariants.{Implied};
+ghost use Rattle.hs_pure.specs.Eval.{stack_of, has_quantifiers};
+ghost use Rattle.hs_pure.specs.Truth.{TrueAt};
+ghost use Rattle.hs_equations.specs.Finding.{IsCounter};
 
-use crate::finding::Finding;
-use hs_pure::{Pure, Valuation, Var};
-use sqlite_items::Items;
-use std::alloc::Global;
+use hs_pure::{Pure, Valuation};
 
 // Whether `Exists` or `Forall` occurs.
 #[cycle(has_quantifiers)]
@@ -40,38 +37,51 @@ fn any_has(ps: &[Pure]) -> bool
     false
 }
 
-// The values, where they make the first formula true and the second false.
-pub(crate) fn confirmed(alloc: Global, a: &Pure, b: &Pure, numbers: Items<(Var, i128)>) -> Finding
-    ensures implied { ¬ (result ≡ Implied) }
-    ensures refuted { IfRefuted result (IsCounter a.now b.now) }
+// Whether the values make the formula true, if that is seen.
+fn truth(p: &Pure, v: &Valuation) -> Option<bool>
+    ensures { IfSome result (λ b. IsTrue b ↔ TrueAt (stack_of v.now) p.now) }
 {
-    if has_quantifiers(a) || has_quantifiers(b) {
-        return Finding::Open;
+    if has_quantifiers(p) {
+        return None;
     }
-    let v = Valuation {
-        numbers,
-        bags: Items::new(alloc),
-    };
-    tried(a, b, v)
+    match p.eval(v) {
+        Ok(truth) => Some(truth),
+        Err(_) => None,
+    }
 }
 
-fn tried(a: &Pure, b: &Pure, v: Valuation) -> Finding
-    requires left { has_quantifiers a.now ≡ false }
-    requires right { has_quantifiers b.now ≡ false }
-    ensures implied { ¬ (result ≡ Implied) }
-    ensures refuted { IfRefuted result (IsCounter a.now b.now) }
+// Whether the values are seen to make the formula true.
+fn is_true(p: &Pure, v: &Valuation) -> bool
+    ensures { IsTrue result → TrueAt (stack_of v.now) p.now }
 {
-    let Ok(left) = a.eval(&v) else {
-        return Finding::Open;
-    };
-    let Ok(right) = b.eval(&v) else {
-        return Finding::Open;
-    };
-    if !left {
-        return Finding::Open;
+    match truth(p, v) {
+        Some(b) => b,
+        None => false,
     }
-    if right {
-        return Finding::Open;
+}
+
+// Whether the values are seen to make the formula false.
+fn is_false(p: &Pure, v: &Valuation) -> bool
+    ensures { IsTrue result → ¬ (TrueAt (stack_of v.now) p.now) }
+{
+    match truth(p, v) {
+        Some(b) => !b,
+        None => false,
     }
-    Finding::Refuted(v)
+}
+
+// Whether the values are seen to make the formula as it is expected.
+pub(crate) fn is_told(p: &Pure, v: &Valuation, expected: bool) -> bool {
+    if expected {
+        is_true(p, v)
+    } else {
+        is_false(p, v)
+    }
+}
+
+// Whether the values are seen to make the first formula true and the second false.
+pub(crate) fn is_counter(a: &Pure, b: &Pure, v: &Valuation) -> bool
+    ensures { IsTrue result → IsCounter a.now b.now v.now }
+{
+    if is_true(a, v) { is_false(b, v) } else { false }
 }

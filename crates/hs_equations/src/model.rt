@@ -4,7 +4,7 @@ use crate::fourier::Tower;
 use crate::halt::Halt;
 use crate::row::{Kind, Row, Solved};
 use hs_cooper_forms::coefficient;
-use hs_pure::{Lin, Var};
+use hs_pure::{Lin, Valuation, Var};
 use sqlite_items::Items;
 use std::alloc::Global;
 use std::cmp::{max, min};
@@ -203,16 +203,17 @@ pub(crate) fn model(
     alloc: Global,
     tower: &Tower,
     solved: &[Solved],
-) -> Result<Option<Items<(Var, i128)>>, Halt> {
+) -> Result<Option<Valuation>, Halt> {
     let Some(free) = free_values(alloc, tower.done.as_slice(), tower.order.as_slice())? else {
         return Ok(None);
     };
-    let mut values = Items::from_slice(alloc, free.as_slice())?;
+    let mut numbers = Items::from_slice(alloc, free.as_slice())?;
     for e in solved {
         match pivot_value(e, free.as_slice()) {
-            Some(value) => values.push((e.pivot, value))?,
+            Some(value) => numbers.push((e.pivot, value))?,
             None => return Ok(None),
         }
     }
-    Ok(Some(values))
+    let bags = Items::new(alloc);
+    Ok(Some(Valuation { numbers, bags }))
 }

@@ -3,22 +3,20 @@
 ghost use Rattle.std.specs.Prelude.{◌≡◌, true, IfOk, OnOk};
 ghost use Rattle.std.specs.List.{All, Any};
 ghost use Rattle.hs_pure.specs.Stack.{Stack};
-ghost use Rattle.hs_equations.specs.Rows.{Holds};
 ghost use Rattle.hs_equations.specs.Claims.{IsClaimed, IsCase, HoldsAll, HoldsAllStill};
 ghost use Rattle.hs_equations.specs.Searching.{AreCases, IsSplit, AdvanceHolds};
 ghost use Rattle.hs_equations.specs.Finding.{IfRefuted, IsCounter};
 ghost use Rattle.hs_equations.specs.declared.finding.Finding.TheVariants.{Implied};
 
 use crate::claim::{Case, Claim, State, assume};
-use crate::confirm::confirmed;
+use crate::confirm::{is_counter, is_told};
 use crate::finding::Finding;
 use crate::fourier::{Tower, raise_tower};
 use crate::halt::{Halt, charge};
 use crate::known::sifted_cases;
 use crate::model::model;
-use crate::row::Solved;
-use crate::rows::{Rows, copied_rows, settled};
-use hs_pure::Pure;
+use crate::rows::{copied_rows, settled};
+use hs_pure::{Pure, Valuation};
 use sqlite_items::Items;
 use std::alloc::Global;
 
@@ -50,6 +48,32 @@ fn fewest(cases: &[Case]) -> Option<usize> {
         }
     }
     best
+}
+
+// The place of a case with the fewest claims of those that the values do not make true, or of all.
+fn failing(cases: &[Case], v: &Valuation) -> Option<usize> {
+    let mut best = None;
+    let mut least = usize::MAX;
+    for (i, case) in cases.iter().enumerate() {
+        if case.claims.len() < least && !is_met(case.claims.as_slice(), v) {
+            best = Some(i);
+            least = case.claims.len();
+        }
+    }
+    if best.is_none() {
+        return fewest(cases);
+    }
+    best
+}
+
+// Whether the values make one of the claims true.
+fn is_met(claims: &[Claim], v: &Valuation) -> bool {
+    for claim in claims {
+        if is_told(claim.formula, v, claim.expected) {
+            return true;
+        }
+    }
+    false
 }
 
 // The place of a case with at most one claim.
@@ -281,13 +305,80 @@ fn solve_at_rest(
     ensures implied { IfOk result (λ r. r ≡ Implied → (s : Stack) → ¬ (HoldsAll s state.entry)) }
     ensures refuted { IfOk result (λ r. IfRefuted r (IsCounter a.now b.now)) }
 {
+    let copy = copied_rows(alloc, state.rows.taken.as_slice())?;
+    let found = raise_tower(alloc, copy, steps)?;
+    match found {
+        Some(tower) => solve_with(alloc, a, b, state, &tower, depth, steps),
+        None => Ok(Finding::Implied),
+    }
+}
+
+// The same of a state whose rows are not contradictory: values of the rows are tried, and a case that they do not
+// make true is split.
+#[cycle(solving)]
+fn solve_with(
+    alloc: Global,
+    a: &Pure,
+    b: &Pure,
+    state: State,
+    tower: &Tower,
+    depth: u32,
+    steps: &mut u64,
+) -> Result<Finding, Halt>
+    ensures implied { IfOk result (λ r. r ≡ Implied → (s : Stack) → ¬ (HoldsAll s state.entry)) }
+    ensures refuted { IfOk result (λ r. IfRefuted r (IsCounter a.now b.now)) }
+{
+    let values = model(alloc, tower, state.rows.solved.as_slice())?;
+    match values {
+        Some(v) => solve_at(alloc, a, b, state, v, depth, steps),
+        None => {
+            let place = fewest(state.cases.as_slice());
+            solve_place(alloc, a, b, state, place, depth, steps)
+        }
+    }
+}
+
+// The same of a state and values of its rows.
+#[cycle(solving)]
+fn solve_at(
+    alloc: Global,
+    a: &Pure,
+    b: &Pure,
+    state: State,
+    v: Valuation,
+    depth: u32,
+    steps: &mut u64,
+) -> Result<Finding, Halt>
+    ensures implied { IfOk result (λ r. r ≡ Implied → (s : Stack) → ¬ (HoldsAll s state.entry)) }
+    ensures refuted { IfOk result (λ r. IfRefuted r (IsCounter a.now b.now)) }
+{
+    if is_counter(a, b, &v) {
+        return Ok(Finding::Refuted(v));
+    }
+    let place = failing(state.cases.as_slice(), &v);
+    solve_place(alloc, a, b, state, place, depth, steps)
+}
+
+// The same where the case at a place is split, if there is one.
+#[cycle(solving)]
+fn solve_place(
+    alloc: Global,
+    a: &Pure,
+    b: &Pure,
+    state: State,
+    place: Option<usize>,
+    depth: u32,
+    steps: &mut u64,
+) -> Result<Finding, Halt>
+    ensures implied { IfOk result (λ r. r ≡ Implied → (s : Stack) → ¬ (HoldsAll s state.entry)) }
+    ensures refuted { IfOk result (λ r. IfRefuted r (IsCounter a.now b.now)) }
+{
     if depth == 0 {
         return Ok(Finding::Open);
     }
-    let place = fewest(state.cases.as_slice());
     match place {
         Some(at) => solve_split(alloc, a, b, state, at, depth - 1, steps),
-        None => at_leaf(alloc, a, b, &state.rows, steps),
+        None => Ok(Finding::Open),
     }
 }
 
@@ -354,35 +445,4 @@ fn solve_part(
     let copy = copied(alloc, state)?;
     let part = assume(alloc, copy, claim.formula, claim.expected)?;
     solve(alloc, a, b, part, depth, steps)
-}
-
-// What is found where no case is left.
-fn at_leaf(alloc: Global, a: &Pure, b: &Pure, rows: &Rows, steps: &mut u64) -> Result<Finding, Halt>
-    ensures implied { IfOk result (λ r. r ≡ Implied → (s : Stack) → ¬ (Holds s rows.now)) }
-    ensures refuted { IfOk result (λ r. IfRefuted r (IsCounter a.now b.now)) }
-{
-    let copy = copied_rows(alloc, rows.taken.as_slice())?;
-    let found = raise_tower(alloc, copy, steps)?;
-    match found {
-        Some(tower) => at_tower(alloc, a, b, &tower, rows.solved.as_slice()),
-        None => Ok(Finding::Implied),
-    }
-}
-
-// What is found where the rows are not contradictory: values are tried.
-fn at_tower(
-    alloc: Global,
-    a: &Pure,
-    b: &Pure,
-    tower: &Tower,
-    solved: &[Solved],
-) -> Result<Finding, Halt>
-    ensures implied { IfOk result (λ r. ¬ (r ≡ Implied)) }
-    ensures refuted { IfOk result (λ r. IfRefuted r (IsCounter a.now b.now)) }
-{
-    let values = model(alloc, tower, solved)?;
-    match values {
-        Some(numbers) => Ok(confirmed(alloc, a, b, numbers)),
-        None => Ok(Finding::Open),
-    }
 }
