@@ -1,2 +1,0 @@
-pub use memory :: NoMemory ;
-mod memory ;

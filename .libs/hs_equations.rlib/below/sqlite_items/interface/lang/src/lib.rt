@@ -1,4 +1,0 @@
-pub use boxed :: Boxed ;
-pub use items :: Items ;
-mod boxed ;
-mod items ;

@@ -1,2 +1,0 @@
-use hs_pure :: Valuation ;
-# [ derive ( Debug , Drop ) ] pub enum Finding { Implied , Refuted ( Valuation ) , Open , }

@@ -1,4 +1,0 @@
-mod finding ;
-mod question ;
-pub use finding :: Finding ;
-pub use question :: examine ;
