@@ -100,10 +100,15 @@ length-map : {X Y : Type 0} (g : X → Y) (xs : List X) → length (map g xs) �
 length-map g [] = refl
 length-map g (x ∷ xs) = ap (λ (n : ℕ). suc n) (length-map g xs)
 
--- a step leaves one form less
-abbrev pub HasLater : ℕ → Reduction → Type 0
-HasLater n r = length r.later ≡ n
+-- a form with variables is taken by a unit term
+pub proper-step : (r : Reduction) (f : Lin) (later : List Lin) → ¬ (f.terms ≡ []) → step_for r f later (unit_term f.terms) ≡ step r f later f.terms
+proper-step r f later h = by_terms f.terms refl
+  where
+    by_terms : (ts : List Term) → f.terms ≡ ts → step_for r f later (unit_term ts) ≡ step r f later ts
+    by_terms [] e = absurd (h e)
+    by_terms (t ∷ ts) e = refl
 
+-- a step leaves one form less
 pub step-length : (r : Reduction) (f : Lin) (later : List Lin) (q : Reduction) → step r f later f.terms ≡ Some q → length q.later ≡ length later
 step-length r f later q h = by_terms f.terms h
   where
@@ -126,10 +131,15 @@ steps-on r f later q all cut h =
     ∙ sym (ap (after (λ x. steps (length later) x x.later)) h)
     ∙ ap (λ (ls : List Lin). steps (length ls) r ls) (sym cut)
 
-pub steps-end : (r : Reduction) (f : Lin) (later all : List Lin) → all ≡ f ∷ later → step r f later f.terms ≡ None → steps (length all) r all ≡ None
-steps-end r f later all cut h =
-    ap (λ (ls : List Lin). steps (length ls) r ls) cut
-    ∙ ap (after (λ x. steps (length later) x x.later)) h
+-- and after a form without variables
+pass-on : (r : Reduction) (f : Lin) (later all : List Lin) → all ≡ f ∷ later → f.terms ≡ [] → steps (length later) (passed r f later) later ≡ steps (length all) r all
+pass-on r f later all cut e = steps-on r f later (passed r f later) all cut (ap (step r f later) e)
+
+pub pass-next : (r : Reduction) (f : Lin) (later : List Lin) (pivots2 : List (Option Term)) (taken2 : List Lin) (g : Lin) → r.later ≡ f ∷ later → f.terms ≡ [] → pivots2 ≡ r.pivots ++ None ∷ [] → taken2 ≡ r.taken ++ g ∷ [] → g ≡ f
+    → steps (length later) record { pivots = pivots2; taken = taken2; later = later; right = r.right } later ≡ steps (length r.later) r r.later
+pass-next r f later pivots2 taken2 g cut e p t same =
+    (λ i. steps (length later) record { pivots = p i; taken = (t ∙ ap (λ (a : Lin). r.taken ++ a ∷ []) same) i; later = later; right = r.right } later)
+    ∙ pass-on r f later r.later cut e
 
 -- the forms that are to come stay small
 pub later-small : (r : Reduction) (f : Lin) (later : List Lin) (q : Reduction) → all_small later ≡ true → step r f later f.terms ≡ Some q → all_small q.later ≡ true

@@ -1,5 +1,5 @@
 -- Equations that are solved one after another, each for a variable with the coefficient 1 or -1.
-use Rattle.std.specs.Prelude.{ℕ, zero, suc, ◌+◌, ◌^◌, ◌==◌, Bool, true, ◌&&◌, nat_lt, not, if◌then◌else◌, List, [], ◌∷◌, ◌++◌, map, length, Option, None, Some, ℤ, pos, negsuc, neg_ℤ, unsigned_abs}
+use Rattle.std.specs.Prelude.{◌≡◌, ℕ, zero, suc, ◌+◌, ◌^◌, ◌==◌, Bool, true, ◌&&◌, nat_lt, not, if◌then◌else◌, List, [], ◌∷◌, ◌++◌, map, length, Option, None, Some, ℤ, pos, negsuc, neg_ℤ, unsigned_abs}
 use Rattle.hs_pure.specs.declared.var.Var.{Var}
 use Rattle.hs_pure.specs.declared.lin.Lin.{Lin}
 use Rattle.hs_pure.specs.Sums.{weight}
@@ -40,6 +40,11 @@ put t f as' = map (substitute_lin (place t.0) (solution f t)) as'
 
 abbrev pub put_right : Term → Lin → List Comparison → List Comparison
 put_right t f cs = map (λ c. (c.0, substitute_lin (place t.0) (solution f t) c.1)) cs
+
+-- the first form, if there is one, has variables
+abbrev pub BeginsProper : List Lin → Type 0
+BeginsProper [] = Unit {0}
+BeginsProper (f ∷ fs) = ¬ (f.terms ≡ [])
 
 -- ---- steps
 

@@ -1,8 +1,8 @@
 //! Equations that are solved one after another.
 
-ghost use Rattle.std.specs.Prelude.{◌≡◌, ◌++◌, [], ◌∷◌, true, length, Option, None, Some, IfOk};
+ghost use Rattle.std.specs.Prelude.{◌≡◌, ◌≤◌, ◌++◌, [], ◌∷◌, true, length, Option, None, Some, IfOk};
 ghost use Rattle.hs_unit.specs.Sides.{forms};
-ghost use Rattle.hs_unit.specs.Reduction.{is_small, all_small, is_unit, passed, solved_for, step_for, step, steps, start, reduced};
+ghost use Rattle.hs_unit.specs.Reduction.{is_small, all_small, is_unit, BeginsProper, step_for, step, steps, reduced};
 
 use crate::sides::Kind;
 use crate::small::{all_small, are_small};
@@ -44,22 +44,6 @@ fn copied_right(alloc: Global, right: &[(Kind, Lin)]) -> Result<Items<(Kind, Lin
     Ok(all)
 }
 
-// The form, which has no variables, is passed over.
-fn passed(alloc: Global, r: &Reduction, f: &Lin, later: &[Lin]) -> Result<Reduction, NoMemory>
-    ensures { IfOk result (λ q. q ≡ passed r.now f.now later.now) }
-{
-    let mut pivots = Items::from_slice(alloc, r.pivots.as_slice())?;
-    pivots.push(None)?;
-    let mut taken = copies(alloc, r.taken.as_slice())?;
-    taken.push(f.copy(alloc)?)?;
-    Ok(Reduction {
-        pivots,
-        taken,
-        later: copies(alloc, later)?,
-        right: copied_right(alloc, r.right.as_slice())?,
-    })
-}
-
 // The form is solved for the variable of the term, if the other forms stay small.
 fn solved_for(
     alloc: Global,
@@ -95,18 +79,43 @@ fn solved_for(
     }))
 }
 
-// The form is taken.
+// The form is taken. It has variables.
 fn step(alloc: Global, r: &Reduction, f: &Lin, later: &[Lin]) -> Result<Option<Reduction>, NoMemory>
+    requires proper { ¬ (f.now.terms ≡ []) }
     requires small { is_small f.now ≡ true }
     ensures { IfOk result (λ o. o ≡ step r.now f.now later.now f.now.terms) }
 {
-    if f.terms.is_empty() {
-        return Ok(Some(passed(alloc, r, f, later)?));
-    }
     let Some(t) = unit_term(f.terms.as_slice()) else {
         return Ok(None);
     };
     solved_for(alloc, r, f, later, t)
+}
+
+// The forms without variables that come next are passed over, all at once.
+fn without_constants(alloc: Global, r: &Reduction) -> Result<Reduction, NoMemory>
+    requires small { all_small r.now.later ≡ true }
+    ensures same { IfOk result (λ q. steps (length q.later) q q.later ≡ steps (length r.now.later) r.now r.now.later) }
+    ensures small { IfOk result (λ q. all_small q.later ≡ true) }
+    ensures fewer { IfOk result (λ q. length q.later ≤ length r.now.later) }
+    ensures proper { IfOk result (λ q. BeginsProper q.later) }
+{
+    let mut pivots = Items::from_slice(alloc, r.pivots.as_slice())?;
+    let mut taken = copies(alloc, r.taken.as_slice())?;
+    let mut rest = r.later.as_slice();
+    'passing: while let Some((f, later)) = rest.split_first() {
+        if !f.terms.is_empty() {
+            break;
+        }
+        pivots.push(None)?;
+        taken.push(f.copy(alloc)?)?;
+        rest = later;
+    }
+    Ok(Reduction {
+        pivots,
+        taken,
+        later: copies(alloc, rest)?,
+        right: copied_right(alloc, r.right.as_slice())?,
+    })
 }
 
 // The reduction of the forms of a question, if it is there.
@@ -126,7 +135,11 @@ pub(crate) fn reduced(
         later: left,
         right,
     };
-    'reducing: while let Some((f, later)) = r.later.as_slice().split_first() {
+    'reducing: while !r.later.is_empty() {
+        r = without_constants(alloc, &r)?;
+        let Some((f, later)) = r.later.as_slice().split_first() else {
+            return Ok(Some(r));
+        };
         let Some(next) = step(alloc, &r, f, later)? else {
             return Ok(None);
         };
