@@ -1,0 +1,16 @@
+mod Adding
+mod Places
+mod Blocks
+mod Every
+mod Members
+mod Substitutions
+mod Together
+mod Reducing
+mod Sizes
+mod Bounds
+mod Whole
+mod Limits
+mod Listing
+mod Promised
+mod Stops
+mod Bodies

@@ -1,0 +1,13 @@
+use Rattle.std.proofs.Common.{◌≡◌, length, map}
+use Rattle.hs_pure.specs.Assertion.{every, assertion_of}
+use Rattle.hs_reduction.specs.Reduction.{all_below}
+use Rattle.hs_bag.specs.Counting.{layout_of, counted, number_in}
+use Rattle.hs_bag.specs.Literals.{held}
+use Rattle.hs_bag.specs.Substituting.{way_of}
+use Rattle.hs_bag.proofs.layout.Layout.held_everywhere.Given as goal
+
+abbrev pub invariant-loop-i : goal.invariant-loop-i
+invariant-loop-i l = record {
+  size : length l.parts ≡ l.i;
+  made : every (map assertion_of l.parts) ≡ all_below l.i (held (layout_of l.self) (way_of l.how.way) l.how.end (λ i. counted (number_in (layout_of l.self) l.own i)) l.u (assertion_of l.p));
+}

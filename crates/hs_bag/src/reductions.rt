@@ -1,0 +1,63 @@
+//! Formulas with bags, reduced to formulas on numbers.
+
+ghost use Rattle.std.specs.Prelude.{◌≡◌, ◌↔◌, ◌+◌, ◌<◌, ◌≤◌, ◌^◌, false, length, IfOk, IsErrOf};
+ghost use Rattle.hs_pure.specs.Assertion.{assertion_of};
+ghost use Rattle.hs_pure.specs.Occurs.{top_of, is_bags_plain};
+ghost use Rattle.hs_pure.specs.Sums.{IsOrdered};
+ghost use Rattle.hs_reduction.specs.Layout.{layout, after};
+ghost use Rattle.hs_reduction.specs.Instance.{Instance};
+ghost use Rattle.hs_reduction.specs.Reduction.{reduction};
+ghost use Rattle.hs_bag.specs.Counting.{layout_of, LayoutFits};
+ghost use Rattle.hs_bag.specs.Promise.{IsReduction};
+ghost use Rattle.hs_bag.specs.Reading.{compounds_of};
+ghost use Rattle.hs_bag.specs.declared.error.BagError.TheVariants.{UnderQuantifier, Numbers};
+
+use crate::answer::with_counts;
+use crate::error::BagError;
+use crate::instance::Way;
+use crate::laid::laid;
+use crate::layout::Layout;
+use hs_cooper_forms::Refusal;
+use hs_counts::Reduced;
+use hs_pure::{NoMemory, Pure};
+use sqlite_items::Boxed;
+use std::alloc::Global;
+
+// The reduction whose instances replace, or else the one whose instances form no product. A number of the second that
+// passes 128 bits all the same would be told as want of memory.
+fn either_way(alloc: Global, l: &Layout, f: &Pure) -> Result<Boxed<Pure>, NoMemory>
+    requires layout { layout_of l.now ≡ layout l.now.start (assertion_of f.now) }
+    requires blocks { l.now.blocks ≡ length l.now.bags + compounds_of f.now }
+    requires fits { LayoutFits l.now }
+    ensures { IfOk result (λ r. (way : Instance) × (assertion_of r ≡ reduction way l.now.start (assertion_of f.now))) }
+{
+    match l.reduction(alloc, Way::Replaced, f) {
+        Ok(pure) => Ok(pure),
+        Err(Refusal::Memory) => Err(NoMemory),
+        Err(Refusal::Wide) => match l.reduction(alloc, Way::Stated, f) {
+            Ok(pure) => Ok(pure),
+            Err(_) => Err(NoMemory),
+        },
+    }
+}
+
+/// A formula without bags that stands for `f`, whose sums are in order. `fresh` is above all numbers of `f` and at most
+/// 2^31.
+///
+/// `UnderQuantifier` comes exactly where a bag literal stands under a quantifier or an `AllOf`, and `Numbers` only where
+/// the plain reduction takes more than 2^30 new numbers.
+pub fn reduce(alloc: Global, f: &Pure, fresh: u32) -> Result<Reduced, BagError>
+    requires ordered { IsOrdered f.now }
+    requires above { top_of f.now < fresh }
+    requires low { fresh ≤ 2 ^ 31 }
+    ensures reduction { IfOk result (λ r. IsReduction f.now fresh r) }
+    ensures under { IsErrOf result UnderQuantifier ↔ (is_bags_plain f.now ≡ false) }
+    ensures numbers { IsErrOf result Numbers → fresh + 2 ^ 30 < after (layout fresh (assertion_of f.now)) (assertion_of f.now) }
+{
+    if !f.bags_plain() {
+        return Err(BagError::UnderQuantifier);
+    }
+    let l = laid(alloc, f, fresh)?;
+    let pure = either_way(alloc, &l, f)?;
+    Ok(with_counts(alloc, &l, pure)?)
+}
