@@ -140,9 +140,9 @@ impl Pure {
         }
     }
 
-    // Whether a bag literal occurs.
+    /// Whether a bag literal occurs.
     #[cycle(has_bags)]
-    fn has_bags(&self) -> bool
+    pub fn has_bags(&self) -> bool
         ensures { result ≡ has_bags self.now }
     {
         match self {
