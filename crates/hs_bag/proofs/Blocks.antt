@@ -12,7 +12,8 @@ use Rattle.hs_reduction.specs.Reduction.{count_term, defined}
 use Rattle.hs_bag.specs.declared.define.Operation.{Operation}
 use Rattle.hs_bag.specs.declared.define.Operation.TheVariants as operation
 use Rattle.hs_bag.specs.declared.layout.Layout.{Layout}
-use Rattle.hs_bag.specs.Counting.{counted, operated, layout_of, own_block, number_in, LayoutFits, BlockFits}
+use Rattle.hs_bag_parts.specs.Formulas.{counted}
+use Rattle.hs_bag.specs.Counting.{operated, layout_of, own_block, number_in, LayoutFits, BlockFits}
 
 name_place_within : (v : Var) (ws : List Var) → name_place v ws ≤ length ws
 name_place_within v [] = omega arith

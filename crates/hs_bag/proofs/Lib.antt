@@ -1,10 +1,6 @@
-mod Adding
 mod Places
 mod Blocks
 mod Every
-mod Members
-mod Substitutions
-mod Together
 mod Reducing
 mod Sizes
 mod Bounds
@@ -13,4 +9,5 @@ mod Limits
 mod Listing
 mod Promised
 mod Stops
-mod Bodies
+mod Free
+mod Renaming

@@ -1,5 +1,5 @@
 -- Few new numbers.
-use Rattle.std.proofs.Common.{◌≡◌, ℕ, ◌+◌, ◌*◌, ◌<◌, ◌≤◌, ◌^◌, min, true, List, [], length, arith}
+use Rattle.std.proofs.Common.{◌≡◌, ℕ, ◌+◌, ◌*◌, ◌<◌, ◌≤◌, ◌^◌, min, true, List, [], length, ap, arith}
 use Rattle.std.proofs.lemmas.Nat.{mul-le}
 use Rattle.std.proofs.Math.Nat.{add-mul, mul_comm}
 use Rattle.hs_pure.specs.declared.var.Var.{Var}
@@ -8,6 +8,7 @@ use Rattle.hs_pure.specs.Assertion.{Assertion}
 use Rattle.hs_elimination.specs.Cases.{join_distinct}
 use Rattle.hs_reduction.specs.Layout as Laid
 use Rattle.hs_reduction.specs.Layout.{layout, terms, names, denied, compounds, width, after}
+use Rattle.hs_bag.specs.Size.{HasCounts}
 
 pub row_above : (a b : ℕ) → 0 < b → a ≤ a * b
 row_above a b h = let row : a * 1 ≤ a * b = mul-le a 1 a b (omega arith) h in omega (arith, row)
@@ -31,6 +32,15 @@ module _ (start : ℕ) (p : Assertion) (listed : List Lin) (bags : List Var) (ne
       let same : denied true p + (length bags + compounds p) * (length listed + denied true p) ≡ denied true p + (length (names p []) + compounds p) * (length (join_distinct [] (terms p)) + denied true p)
       = λ i. denied true p + (length (bags_are i) + compounds p) * (length (listed_is i) + denied true p) in
       omega arith
+
+  pub too_many_elements : 2 ^ 30 < new → start + 2 ^ 30 < after (layout start p) p
+  too_many_elements more = omega arith
+
+  pub has_counts : 0 < length bags + comp → 0 < length listed + new → HasCounts (layout start p) p
+  has_counts some wide =
+      let bags_same : length bags ≡ length (names p []) = ap length bags_are in
+      let listed_same : length listed ≡ length (join_distinct [] (terms p)) = ap length listed_is in
+      (omega arith, omega arith)
 
   pub is_laid : length listed + new < 2 ^ 30 → ◌≡◌ {A = Laid.Layout} (record { start = start; listed = listed; new = new; bags = bags }) (layout start p)
   is_laid few = let new_exact : new ≡ denied true p = omega arith in λ i. record { start = start; listed = listed_is i; new = new_exact i; bags = bags_are i }

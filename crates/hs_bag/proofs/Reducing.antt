@@ -15,10 +15,11 @@ use Rattle.hs_reduction.specs.Layout.{width, lin_place, bag_compounds, compounds
 use Rattle.hs_reduction.specs.Instance.{Instance}
 use Rattle.hs_reduction.specs.Reduction.{zero_term, count_term, all_defined, signed, positive_at, reduced}
 use Rattle.hs_bag.specs.declared.layout.Layout.{Layout}
-use Rattle.hs_bag.specs.declared.formula.Relation.{Relation}
-use Rattle.hs_bag.specs.declared.formula.Relation.TheVariants.{Equal, AtMost}
-use Rattle.hs_bag.specs.Counting.{counted, layout_of, own_block, number_in}
-use Rattle.hs_bag.specs.Reading.{compounds_of, all_compounds, denied_of, all_denied}
+use Rattle.hs_bag_parts.specs.declared.formula.Relation.{Relation}
+use Rattle.hs_bag_parts.specs.declared.formula.Relation.TheVariants.{Equal, AtMost}
+use Rattle.hs_bag_parts.specs.Formulas.{counted}
+use Rattle.hs_bag.specs.Counting.{layout_of, own_block, number_in}
+use Rattle.hs_bag_parts.specs.Reading.{compounds_of, all_compounds, denied_of, all_denied}
 use Rattle.hs_bag.specs.Substituting.{ReducedIsWide}
 use Rattle.hs_bag.specs.Literals.{joined, stated, compared, contained, all_held, HeldIsWide, reduced_all, AllAreWide}
 use Rattle.hs_bag.proofs.Blocks.{counted_own}

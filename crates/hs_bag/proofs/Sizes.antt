@@ -7,7 +7,8 @@ use Rattle.hs_pure.specs.Assertion.{BagTerm, empty, name, one, union, inter, dif
 use Rattle.hs_reduction.specs.Layout.{Layout, layout, width, element, lin_place, after, bag_compounds, denied, compounds}
 use Rattle.hs_reduction.specs.Instance.{Substitution, itself, instead, substituted, instance, replaced}
 use Rattle.hs_reduction.specs.Reduction.{all_below, signed, defined, all_defined, reduced, equal_counts, is_count, are_counts, reduction, equal_at, within_at, positive_at, held_at}
-use Rattle.hs_bag.specs.Size.{comparisons, bag_comparisons, reduced_comparisons, reduction_comparisons}
+use Rattle.hs_bag_parts.specs.Size.{comparisons, bag_comparisons, reduced_comparisons}
+use Rattle.hs_bag.specs.Size.{reduction_comparisons}
 
 all_below-each : (n c : ℕ) (f : ℕ → Assertion) → ((i : ℕ) → comparisons (f i) ≡ c) → comparisons (all_below n f) ≡ n * c
 all_below-each zero c f h = omega arith

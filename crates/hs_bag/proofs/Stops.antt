@@ -1,16 +1,20 @@
 -- Layouts of formulas, and where a plain reduction stops.
-use Rattle.std.proofs.Common.{◌≡◌, ℕ, ◌+◌, ◌*◌, ◌<◌, ◌≤◌, ◌^◌, min, length, sym, ap, ◌∙◌, subst, arith}
+use Rattle.std.proofs.Common.{◌≡◌, ℕ, ◌+◌, ◌*◌, ◌<◌, ◌≤◌, ◌^◌, min, length, sym, ap, ◌∙◌, subst, IsTrue, arith}
+use Rattle.hs_pure.specs.declared.var.Var.{Var}
 use Rattle.hs_pure.specs.Assertion.{Assertion}
+use Rattle.hs_pure.specs.Mirror.{is_free_in}
 use Rattle.hs_reduction.specs.Layout as Laid
 use Rattle.hs_reduction.specs.Layout.{layout, width, compounds, after}
 use Rattle.hs_reduction.specs.Instance.{Instance, replaced}
 use Rattle.hs_reduction.specs.Reduction.{reduction}
 use Rattle.hs_bag.specs.declared.layout.Layout.{Layout}
 use Rattle.hs_bag.specs.Counting.{layout_of}
-use Rattle.hs_bag.specs.Size.{comparisons, reduction_comparisons}
+use Rattle.hs_bag_parts.specs.Size.{comparisons}
+use Rattle.hs_bag.specs.Size.{reduction_comparisons, HasCounts}
 use Rattle.hs_bag.specs.Substituting.{ReductionIsWide}
 use Rattle.hs_bag.proofs.Sizes.{reduction-same}
 use Rattle.hs_bag.proofs.Bounds.{numbers-bound}
+use Rattle.hs_bag.proofs.Free.{free_in_reduction}
 
 pub too_many_comparisons : (l : Laid.Layout) (start atoms n : ℕ) (p : Assertion) → l ≡ layout start p → n ≡ min (reduction_comparisons l p) (atoms + 1) → atoms < n → atoms < comparisons (reduction replaced start p)
 too_many_comparisons l start atoms n p l_is n_is more =
@@ -25,6 +29,9 @@ too_many_numbers start atoms p small more =
   where
     less_by : (end n : ℕ) → atoms ≤ 2 ^ 30 → start + 2 ^ 30 < end → end ≤ start + n → atoms < n
     less_by end n h k b = omega arith
+
+pub some_is_free : (l : Layout) (start : ℕ) (p : Assertion) → layout_of l ≡ layout start p → l.blocks ≡ length l.bags + compounds p → 0 < l.blocks → 0 < width (layout_of l) → (v : Var) × IsTrue (is_free_in v (reduction replaced start p))
+some_is_free l start p l_is blocks_are some wide = free_in_reduction replaced start p (subst (λ (k : Laid.Layout). HasCounts k p) l_is (subst (λ n. 0 < n) blocks_are some, wide))
 
 module _ (l : Layout) (fresh : ℕ) (p : Assertion) (l_is : layout_of l ≡ layout fresh p) where
   start_is : l.start ≡ fresh

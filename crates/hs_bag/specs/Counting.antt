@@ -1,25 +1,13 @@
 -- Counts of bags at an element term, as the code finds their numbers.
 use Rattle.std.specs.Prelude.{ℕ, ◌+◌, ◌*◌, ◌<◌, ◌≤◌, ◌^◌, length, Option, None, Some}
 use Rattle.hs_pure.specs.declared.lin.Lin.{Lin}
-use Rattle.hs_pure.specs.Assertion.{BagTerm, empty, name, one, union, inter, diff, Assertion, eq, lt, le}
-use Rattle.hs_reduction.specs.Layout.{variable, name_place, bag_compounds, width, count_number}
+use Rattle.hs_pure.specs.Assertion.{BagTerm, empty, name, one, union, inter, diff, Assertion}
+use Rattle.hs_reduction.specs.Layout.{name_place, bag_compounds, width, count_number}
 use Rattle.hs_reduction.specs.Layout as Laid
-use Rattle.hs_reduction.specs.Reduction.{zero_term, is_sum, is_least, is_difference}
+use Rattle.hs_reduction.specs.Reduction.{is_sum, is_least, is_difference}
 use Rattle.hs_bag.specs.declared.layout.Layout.{Layout}
-use Rattle.hs_bag.specs.declared.formula.Relation.{Relation}
-use Rattle.hs_bag.specs.declared.formula.Relation.TheVariants.{Equal, Less, AtMost}
 use Rattle.hs_bag.specs.declared.define.Operation.{Operation}
 use Rattle.hs_bag.specs.declared.define.Operation.TheVariants as operation
-
--- a variable, or 0
-abbrev pub counted : Option ℕ → Lin
-counted None = zero_term
-counted (Some n) = variable n
-
-abbrev pub related : Relation → Lin → Lin → Assertion
-related Equal a b = eq a b
-related Less a b = lt a b
-related AtMost a b = le a b
 
 -- what the count c of an operation is
 abbrev pub operated : Operation → Lin → Lin → Lin → Assertion

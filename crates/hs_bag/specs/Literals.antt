@@ -7,10 +7,11 @@ use Rattle.hs_pure.specs.Assertion.{BagTerm, Assertion, eq, lt, negation, both, 
 use Rattle.hs_reduction.specs.Layout.{Layout, width, element, bag_compounds, lin_place}
 use Rattle.hs_reduction.specs.Instance.{Instance, instance}
 use Rattle.hs_reduction.specs.Reduction.{all_below, signed, zero_term, count_term, all_defined, both_defined, positive_at, reduced}
-use Rattle.hs_bag.specs.declared.formula.Relation.{Relation}
-use Rattle.hs_bag.specs.Counting.{related}
-use Rattle.hs_bag.specs.Reading.{compounds_of, denied_of}
-use Rattle.hs_bag.specs.Substituting.{InstanceIsWide, ReducedIsWide}
+use Rattle.hs_bag_parts.specs.declared.formula.Relation.{Relation}
+use Rattle.hs_bag_parts.specs.Formulas.{related}
+use Rattle.hs_bag_parts.specs.Reading.{compounds_of, denied_of}
+use Rattle.hs_bag_parts.specs.Substituting.{InstanceIsWide}
+use Rattle.hs_bag.specs.Substituting.{ReducedIsWide}
 
 -- the members as a conjunction, or as a disjunction
 abbrev pub joined : Bool → List Assertion → Assertion

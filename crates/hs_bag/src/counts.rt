@@ -6,9 +6,8 @@ ghost use Rattle.hs_reduction.specs.Layout.{width};
 ghost use Rattle.hs_reduction.specs.Reduction.{all_below, equal_counts, is_count, are_counts};
 ghost use Rattle.hs_bag.specs.Counting.{layout_of, LayoutFits};
 
-use crate::formula::{and, at_most, equal, not, or};
 use crate::layout::Layout;
-use crate::sums::{variable, zero};
+use hs_bag_parts::{and, at_most, equal, not, or, variable, zero};
 use hs_pure::{NoMemory, Pure};
 use sqlite_items::{Boxed, Items};
 use std::alloc::Global;

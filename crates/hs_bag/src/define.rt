@@ -4,11 +4,11 @@ ghost use Rattle.std.specs.Prelude.{◌≡◌, ◌+◌, ◌<◌, ◌≤◌, ◌^
 ghost use Rattle.hs_pure.specs.Assertion.{assertion_of, bag_term_of, both};
 ghost use Rattle.hs_reduction.specs.Layout.{width, element, bag_compounds};
 ghost use Rattle.hs_reduction.specs.Reduction.{is_single, defined, all_defined};
-ghost use Rattle.hs_bag.specs.Counting.{counted, operated, layout_of, own_block, number_in, LayoutFits, BlockFits};
+ghost use Rattle.hs_bag_parts.specs.Formulas.{counted};
+ghost use Rattle.hs_bag.specs.Counting.{operated, layout_of, own_block, number_in, LayoutFits, BlockFits};
 
-use crate::formula::{and, is_difference, is_least, is_single, is_sum, truth};
 use crate::layout::Layout;
-use crate::sums::variable;
+use hs_bag_parts::{and, is_difference, is_least, is_single, is_sum, truth, variable};
 use hs_pure::{Bag, Lin, NoMemory, Pure};
 use sqlite_items::{Boxed, Items};
 use std::alloc::Global;

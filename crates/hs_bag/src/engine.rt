@@ -6,13 +6,13 @@ ghost use Rattle.hs_cooper_forms.specs.declared.refusal.Refusal.TheVariants.{Wid
 ghost use Rattle.hs_reduction.specs.Layout.{layout, width};
 ghost use Rattle.hs_reduction.specs.Reduction.{reduction};
 ghost use Rattle.hs_bag.specs.Counting.{layout_of, LayoutFits};
-ghost use Rattle.hs_bag.specs.Substituting.{way_of, ReductionIsWide};
-ghost use Rattle.hs_bag.specs.Reading.{compounds_of};
+ghost use Rattle.hs_bag_parts.specs.Substituting.{way_of};
+ghost use Rattle.hs_bag.specs.Substituting.{ReductionIsWide};
+ghost use Rattle.hs_bag_parts.specs.Reading.{compounds_of};
 
-use crate::formula::and;
-use crate::instance::Way;
 use crate::layout::Layout;
 use crate::reduced::Instances;
+use hs_bag_parts::{Way, and};
 use hs_cooper_forms::Refusal;
 use hs_pure::Pure;
 use sqlite_items::Boxed;

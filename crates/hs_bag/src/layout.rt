@@ -1,12 +1,14 @@
 //! The new numbers of a reduction.
 
-ghost use Rattle.std.specs.Prelude.{◌≡◌, ◌<◌, ◌≤◌, IfOk};
+ghost use Rattle.std.specs.Prelude.{◌≡◌, ◌<◌, ◌≤◌, ◌^◌, min, IfOk, IsTrue};
+ghost use Rattle.hs_pure.specs.Assertion.{assertion_of};
 ghost use Rattle.hs_reduction.specs.Layout.{name_place, lin_place, width, element, count_number};
 ghost use Rattle.hs_bag.specs.Counting.{layout_of, number_in, LayoutFits, BlockFits};
+ghost use Rattle.hs_bag.specs.Size.{reduction_comparisons};
 
-use crate::sums::variable;
+use hs_bag_parts::{reduction_comparisons, variable};
 use hs_cooper_forms::same_lin;
-use hs_pure::{Lin, NoMemory, Var};
+use hs_pure::{Lin, NoMemory, Pure, Var};
 use sqlite_items::Items;
 use std::alloc::Global;
 
@@ -32,6 +34,23 @@ impl Layout {
         ensures { result ≡ width (layout_of self.now) }
     {
         self.listed.len() as u64 + self.new
+    }
+
+    /// How many comparisons the reduction has, or `most` if there are more.
+    pub fn comparisons(&self, f: &Pure, most: u64) -> u64
+        requires fits { LayoutFits self.now }
+        requires most { most ≤ 2 ^ 31 }
+        ensures { result ≡ min (reduction_comparisons (layout_of self.now) (assertion_of f.now)) most }
+    {
+        reduction_comparisons(self.bags.len() as u64, self.width(), f, most)
+    }
+
+    /// Whether some bag has a count.
+    pub fn has_counts(&self) -> bool
+        requires { LayoutFits self.now }
+        ensures { IsTrue result → (0 < self.now.blocks) × (0 < width (layout_of self.now)) }
+    {
+        self.blocks > 0 && self.width() > 0
     }
 
     /// Where a bag variable stands.

@@ -6,15 +6,15 @@ ghost use Rattle.hs_cooper_forms.specs.declared.refusal.Refusal.TheVariants.{Wid
 ghost use Rattle.hs_reduction.specs.Layout.{width, element, bag_compounds, if_denied};
 ghost use Rattle.hs_reduction.specs.Instance.{instance};
 ghost use Rattle.hs_reduction.specs.Reduction.{all_below, signed, zero_term, count_term, all_defined, reduced};
-ghost use Rattle.hs_bag.specs.Counting.{counted, related, layout_of, number_in, LayoutFits, BlockFits};
-ghost use Rattle.hs_bag.specs.Substituting.{way_of, InstanceIsWide, ReducedIsWide};
-ghost use Rattle.hs_bag.specs.Reading.{compounds_of, denied_of, all_compounds, all_denied};
+ghost use Rattle.hs_bag_parts.specs.Formulas.{counted, related};
+ghost use Rattle.hs_bag.specs.Counting.{layout_of, number_in, LayoutFits, BlockFits};
+ghost use Rattle.hs_bag_parts.specs.Substituting.{way_of, InstanceIsWide};
+ghost use Rattle.hs_bag.specs.Substituting.{ReducedIsWide};
+ghost use Rattle.hs_bag_parts.specs.Reading.{compounds_of, denied_of, all_compounds, all_denied};
 ghost use Rattle.hs_bag.specs.Literals.{held, broken, stated, compared, contained, all_held, joined, reduced_all, AllAreWide, HeldIsWide};
 
-use crate::formula::{Relation, and, compare, equal, less, not, or};
-use crate::instance::{Way, instance};
 use crate::layout::Layout;
-use crate::sums::{counted, zero};
+use hs_bag_parts::{Relation, Way, and, compare, counted, equal, instance, less, not, or, zero};
 use hs_cooper_forms::Refusal;
 use hs_pure::{Bag, Lin, NoMemory, Pure, Var};
 use sqlite_items::{Boxed, Items};

@@ -3,9 +3,9 @@ use Rattle.hs_pure.specs.declared.pure.Pure.{the_lemmas}
 use Rattle.hs_pure.specs.declared.pure.Pure.TheVariants as pure_of
 use Rattle.hs_cooper_forms.proofs.Changes.{ok_map}
 use Rattle.hs_bag.specs.Counting.{layout_of}
-use Rattle.hs_bag.specs.Reading.{all_compounds, all_denied}
-use Rattle.hs_bag.specs.Substituting.{way_of}
-use Rattle.hs_bag.proofs.Together.{denied-And, denied-Or, compounds-And, compounds-Or}
+use Rattle.hs_bag_parts.specs.Reading.{all_compounds, all_denied}
+use Rattle.hs_bag_parts.specs.Substituting.{way_of}
+use Rattle.hs_bag_parts.proofs.Together.{denied-And, denied-Or, compounds-And, compounds-Or}
 use Rattle.hs_bag.proofs.Reducing.{reduced_BagEq, reduced_Subset, reduced_AllOf, reduced_And, reduced_Or, wide_And, wide_Or}
 use Rattle.hs_bag.proofs.layout.Layout.+reduced.Goals as goal
 

@@ -1,8 +1,8 @@
 use Rattle.std.proofs.Common.{◌≡◌, ◌+◌, ◌++◌, drop, map}
 use Rattle.hs_pure.specs.Assertion.{assertion_of}
 use Rattle.hs_bag.specs.Counting.{layout_of}
-use Rattle.hs_bag.specs.Reading.{all_denied, all_compounds}
-use Rattle.hs_bag.specs.Substituting.{way_of}
+use Rattle.hs_bag_parts.specs.Reading.{all_denied, all_compounds}
+use Rattle.hs_bag_parts.specs.Substituting.{way_of}
 use Rattle.hs_bag.specs.Literals.{reduced_all, AllAreWide}
 use Rattle.hs_bag.proofs.layout.Layout.+reduced.Given as goal
 

@@ -1,7 +1,7 @@
 use Rattle.std.proofs.Common.{◌∙◌}
 use Rattle.hs_pure.specs.Assertion.{assertion_of, bag_term_of}
 use Rattle.hs_bag.specs.Counting.{layout_of}
-use Rattle.hs_bag.specs.Substituting.{way_of}
+use Rattle.hs_bag_parts.specs.Substituting.{way_of}
 use Rattle.hs_bag.proofs.Blocks.{own_fits}
 use Rattle.hs_bag.proofs.Reducing.{all_of_is}
 use Rattle.hs_bag.proofs.layout.Layout.all_of.Goals as goal

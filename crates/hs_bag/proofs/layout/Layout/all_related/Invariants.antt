@@ -1,7 +1,8 @@
 use Rattle.std.proofs.Common.{◌≡◌, length, map}
 use Rattle.hs_pure.specs.Assertion.{every, assertion_of}
 use Rattle.hs_reduction.specs.Reduction.{all_below}
-use Rattle.hs_bag.specs.Counting.{layout_of, counted, related, number_in}
+use Rattle.hs_bag_parts.specs.Formulas.{counted, related}
+use Rattle.hs_bag.specs.Counting.{layout_of, number_in}
 use Rattle.hs_bag.proofs.layout.Layout.all_related.Given as goal
 
 abbrev pub invariant-loop-i : goal.invariant-loop-i

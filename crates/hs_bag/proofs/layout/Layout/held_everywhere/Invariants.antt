@@ -1,9 +1,10 @@
 use Rattle.std.proofs.Common.{◌≡◌, length, map}
 use Rattle.hs_pure.specs.Assertion.{every, assertion_of}
 use Rattle.hs_reduction.specs.Reduction.{all_below}
-use Rattle.hs_bag.specs.Counting.{layout_of, counted, number_in}
+use Rattle.hs_bag_parts.specs.Formulas.{counted}
+use Rattle.hs_bag.specs.Counting.{layout_of, number_in}
 use Rattle.hs_bag.specs.Literals.{held}
-use Rattle.hs_bag.specs.Substituting.{way_of}
+use Rattle.hs_bag_parts.specs.Substituting.{way_of}
 use Rattle.hs_bag.proofs.layout.Layout.held_everywhere.Given as goal
 
 abbrev pub invariant-loop-i : goal.invariant-loop-i

@@ -1,7 +1,7 @@
 use Rattle.std.proofs.Common.{rules, arith}
 use Rattle.hs_pure.specs.Assertion.{assertion_of}
 use Rattle.hs_bag.specs.Counting.{layout_of}
-use Rattle.hs_bag.specs.Substituting.{way_of}
+use Rattle.hs_bag_parts.specs.Substituting.{way_of}
 use Rattle.hs_bag.proofs.Whole.{has_elements, wide_whole}
 use Rattle.hs_bag.proofs.layout.Layout.reduction.Goals as goal
 

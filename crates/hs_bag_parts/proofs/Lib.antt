@@ -1,0 +1,6 @@
+mod Adding
+mod Members
+mod Substitutions
+pub mod Together
+mod Stopped
+mod Bodies

@@ -1,0 +1,5 @@
+pub mod Reading
+pub mod Size
+pub mod Formulas
+pub mod Widths
+pub mod Substituting
