@@ -1,0 +1,3 @@
+mod Worth
+mod Suiting
+mod Members
