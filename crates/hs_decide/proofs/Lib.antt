@@ -1,1 +1,3 @@
+pub mod Comparisons
+pub mod Reducing
 pub mod Questions

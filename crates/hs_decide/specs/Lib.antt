@@ -1,4 +1,5 @@
 pub mod Question
 pub mod Size
 pub mod Span
+pub mod Reduced
 pub mod Answering

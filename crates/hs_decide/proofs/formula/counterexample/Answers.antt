@@ -10,6 +10,6 @@ returns c =
     let b = c.args.b.now in
     let members : c.push-2.new.self ≡ c.args.a.now ∷ pure_of.Not c.args.b.now ∷ [] =
     c.in_ok-push-2.ensures.ok
-    ∙ ap (λ ps. ps ++ pure_of.Not c.in_ok-new.field-0 ∷ []) (c.in_ok-push.ensures.ok ∙ ap (λ ps. ps ++ c.in_ok-copy.field-0 ∷ []) c.new-members.ensures)
-    ∙ (λ j. c.in_ok-copy.ensures j ∷ pure_of.Not ((c.in_ok-new.ensures ∙ c.in_ok-denied.ensures) j) ∷ []) in
-    ap (λ ps. assertion_of (pure_of.And ps)) members ∙ fold-And pure_level (a ∷ pure_of.Not b ∷ []) ∙ (λ j. both (assertion_of a) (fold-Not pure_level b j))
+    ∙ ap (λ ps. ps ++ pure_of.Not c.in_ok-denied.denied ∷ []) (c.in_ok-push.ensures.ok ∙ ap (λ ps. ps ++ c.in_ok-copy-2.field-0 ∷ []) c.new-members.ensures)
+    ∙ (λ j. c.in_ok-copy-2.ensures j ∷ pure_of.Not ((c.in_ok-denied.ensures ∙ c.in_ok-copy.ensures) j) ∷ []) in
+    ap assertion_of (c.in_ok-new.ensures) ∙ ap (λ ps. assertion_of (pure_of.And ps)) members ∙ fold-And pure_level (a ∷ pure_of.Not b ∷ []) ∙ (λ j. both (assertion_of a) (fold-Not pure_level b j))
