@@ -1,5 +1,5 @@
 -- The tests of solutions and implications tell.
-use Rattle.std.proofs.Common.{◌≡◌, Bool, true, false, not, ◌||◌, cond, IsTrue, ◌⊎◌, inl, inr, ◌↔◌, List, [], ◌∷◌, refl, sym, ◌∙◌, subst}
+use Rattle.std.proofs.Common.{◌≡◌, Bool, true, false, not, ◌&&◌, cond, IsTrue, ◌⊎◌, inl, inr, ◌↔◌, List, [], ◌∷◌, refl, sym, ◌∙◌, subst}
 use Rattle.std.specs.List.{All, Contains}
 use Rattle.hs_pure.specs.declared.var.Var.{Var}
 use Rattle.hs_pure.specs.Assertion.{Assertion, assertion_of}
@@ -11,15 +11,21 @@ use Rattle.hs_pure.proofs.Agree.{agree}
 use Rattle.hs_pure.proofs.Vars.{same-eq, same-refl}
 use Rattle.hs_elimination.specs.Ordered.{assertion_sums, AssertionIsOrdered, has_bag_literal}
 use Rattle.hs_elimination.specs.Decided.{without_quantifiers, is_true_at}
-use Rattle.hs_elimination.proofs.Decided.{tested, simple-without, same-without, truth_is_decided}
-use Rattle.hs_elimination.proofs.Order.{order_is, bags_are, All-both}
+use Rattle.hs_elimination.proofs.Decided.{tested, simple-without, same-without}
+use Rattle.hs_elimination.proofs.Order.{order_is, All-both}
 use Rattle.hs_elimination.proofs.Stage3.{contains_cases, contains_none}
+use Rattle.hs_pure.specs.declared.pure.Pure.{Pure}
+use Rattle.hs_pure.specs.Occurs.{is_bags_plain}
+use Rattle.hs_truth.specs.Laws.{PlainTruthIsDecided}
+use Rattle.hs_reduction.specs.Layout.{bags_plain}
+use Rattle.hs_reduction.specs.Reduction.{bagless}
+use Rattle.hs_reduction.specs.Laws.{BaglessIsExact, BaglessHasNoBags, BaglessIsOrdered, BagsPlainIsOfAssertion}
 use Rattle.hs_decide.specs.Question.{question}
 use Rattle.hs_plain.specs.Variables.{free_variables}
 use Rattle.hs_plain.specs.Span.{zeros}
 use Rattle.hs_plain.proofs.Free.{free_in}
 use Rattle.hs_implication.proofs.Numbers.{test-alike}
-use Rattle.hs_implication.specs.Implied.{for_some, is_satisfiable, is_implied, SolutionsAreTold, ImplicationsAreTold}
+use Rattle.hs_implication.specs.Implied.{for_some, has_numbers, is_satisfiable, is_implied, SolutionsAreTold, ImplicationsAreTold}
 
 -- ---- the test of one stack
 
@@ -79,42 +85,60 @@ values_out (v ∷ vs) p t u numbers near h =
 -- ---- solutions
 
 module _ (p : Assertion) (none : has_bag_literal p ≡ false) (order : AssertionIsOrdered p) where
-  told_at_zeros : IsTrueAt zeros (for_some (free_variables p) p) ↔ IsTrue (is_satisfiable p)
+  told_at_zeros : IsTrueAt zeros (for_some (free_variables p) p) ↔ IsTrue (has_numbers p)
   told_at_zeros =
       tested_at (for_some (free_variables p) p) (bags-for_some (free_variables p) p ∙ none)
       (subst (All LinIsOrdered) (sym (sums-for_some (free_variables p) p)) order) zeros
 
-  solution_told : IsTrue (is_satisfiable p) ↔ ((s : Stack) × IsTrueAt s p)
-  solution_told = (λ h. values_in (free_variables p) p zeros (told_at_zeros.1 h), λ h. told_at_zeros.0 (bound h.0 h.1))
+  numbers_told : IsTrue (has_numbers p) ↔ ((s : Stack) × IsTrueAt s p)
+  numbers_told = (λ h. values_in (free_variables p) p zeros (told_at_zeros.1 h), λ h. told_at_zeros.0 (bound h.0 h.1))
     where
       bound : (s : Stack) → IsTrueAt s p → IsTrueAt zeros (for_some (free_variables p) p)
       bound s h =
           let t : Stack = λ v. number_value (s v).number in
           values_out (free_variables p) p t zeros (λ v. refl) (λ w free. inl (free_in p w none free)) (numbers_alone p none order s t (λ v. refl) h)
 
-pub solutions_are_told : SolutionsAreTold
-solutions_are_told p bags order = solution_told (assertion_of p) (sym (bags_are p) ∙ bags) ((order_is p).0 order)
+-- the laws of the reduction
+pub record Reductions : Type 0 where
+  pub exact : BaglessIsExact
+  pub bags : BaglessHasNoBags
+  pub ordered : BaglessIsOrdered
+  pub plain : BagsPlainIsOfAssertion
+  pub decided : PlainTruthIsDecided
+
+module _ (laws : Reductions) where
+  solution_told : (p : Assertion) → IsTrue (bags_plain p) → AssertionIsOrdered p → IsTrue (is_satisfiable p) ↔ ((s : Stack) × IsTrueAt s p)
+  solution_told p plain order =
+      let t = numbers_told (bagless p) (laws.bags p plain) (laws.ordered p order) in
+      let e = laws.exact p plain order in
+      (λ h. e.1 (t.0 h), λ h. t.1 (e.0 h))
+
+  plain_of : (p : Pure) → IsTrue (is_bags_plain p) → IsTrue (bags_plain (assertion_of p))
+  plain_of p h = subst IsTrue (laws.plain p) h
+
+  pub solutions_are_told : SolutionsAreTold
+  solutions_are_told p plain order = solution_told (assertion_of p) (plain_of p plain) ((order_is p).0 order)
 
 -- ---- implications
 
-none_both : (a b : Bool) → a ≡ false → b ≡ false → (a || b) ≡ false
-none_both a b e f = rw (e, f) refl
+both_plain : (a b : Bool) → IsTrue a → IsTrue b → IsTrue (a && b)
+both_plain a b e f = rw (e, f) refl
 
 not_told : {A : Type 0} (b : Bool) → IsTrue b ↔ A → IsTrue (not b) ↔ (¬ A)
 not_told true t = (λ h. absurd cc, λ h. absurd (h (t.0 refl)))
 not_told false t = (λ h x. let e : false ≡ true = t.1 x in cc, λ h. refl)
 
-pub implications_are_told : ImplicationsAreTold
-implications_are_told a b bags_left bags_right order_left order_right = (λ h. forth (told.0 h), λ h. told.1 (back h))
+pub implications_are_told : Reductions → ImplicationsAreTold
+implications_are_told laws a b plain_left plain_right order_left order_right = (λ h. forth (told.0 h), λ h. told.1 (back h))
   where
     told : IsTrue (is_implied a b) ↔ (¬ ((s : Stack) × IsTrueAt s (question (assertion_of a) (assertion_of b))))
     told =
-        let none = none_both (has_bag_literal (assertion_of a)) (has_bag_literal (assertion_of b)) (sym (bags_are a) ∙ bags_left) (sym (bags_are b) ∙ bags_right) in
+        let plain = both_plain (bags_plain (assertion_of a)) (bags_plain (assertion_of b)) (plain_of laws a plain_left) (plain_of laws b plain_right) in
         let order = All-both LinIsOrdered (assertion_sums (assertion_of a)) (assertion_sums (assertion_of b)) ((order_is a).0 order_left) ((order_is b).0 order_right) in
-        not_told (is_satisfiable (question (assertion_of a) (assertion_of b))) (solution_told (question (assertion_of a) (assertion_of b)) none order)
+        not_told (is_satisfiable (question (assertion_of a) (assertion_of b))) (solution_told laws (question (assertion_of a) (assertion_of b)) plain order)
 
     forth : (¬ ((s : Stack) × IsTrueAt s (question (assertion_of a) (assertion_of b)))) → (s : Stack) → TrueAt s a → TrueAt s b
-    forth none s h = elim (truth_is_decided s b bags_right order_right) [ inl right ↦ right | inr wrong ↦ absurd (none (s, (h, wrong))) ]
+    forth none s h = elim (laws.decided s b plain_right order_right) [ inl right ↦ right | inr wrong ↦ absurd (none (s, (h, wrong))) ]
 
     back : ((s : Stack) → TrueAt s a → TrueAt s b) → ¬ ((s : Stack) × IsTrueAt s (question (assertion_of a) (assertion_of b)))
     back all w = w.1.1 (all w.0 w.1.0)

@@ -1,8 +1,8 @@
-//! Whether a formula of linear integer arithmetic has a solution, and whether one implies another, by total tests.
+//! Whether a formula on numbers and bags has a solution, and whether one implies another, by total tests.
 //!
-//! `specs/` has the tests: the free variables are bound and the quantifiers eliminated, over unbounded integers and
-//! without limits, so that a choice by them is a function of the formulas. The functions have no body: their contracts
-//! are the laws that the layers above use.
+//! `specs/` has the tests: bags are reduced to their counts, the free variables are bound and the quantifiers eliminated,
+//! over unbounded integers and without limits, so that a choice by them is a function of the formulas. The functions
+//! return nothing: their contracts are the laws that the layers above use.
 #![tactic(auto)]
 
 mod laws;

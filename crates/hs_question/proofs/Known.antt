@@ -1,5 +1,5 @@
 -- The atoms that a question takes into account.
-use Rattle.std.proofs.Common.{ℕ, ◌≡◌, IsTrue, inl, inr, List, [], ◌∷◌, ◌++◌, get_or, sym, ◌∙◌, subst}
+use Rattle.std.proofs.Common.{ℕ, ◌≡◌, inl, inr, List, [], ◌∷◌, ◌++◌, get_or, sym, ◌∙◌, subst}
 use Rattle.std.specs.List.{list_any, All}
 use Rattle.std.proofs.lemmas.List.Elements.{All-nil, All-head, All-append}
 use Rattle.std.proofs.lemmas.List.Folds.{list_any-append}

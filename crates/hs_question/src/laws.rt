@@ -3,13 +3,13 @@
 
 ghost use Rattle.hs_question.specs.Asked.{QuestionsCanBeAsked};
 
-use hs_xpure::{approximation_has_no_bags, approximation_is_ordered};
+use hs_xpure::{approximation_is_ordered, approximation_is_plain};
 
-/// Where neither the definitions nor a well-formed goal have bag literals, the sums of both sides of a rule's question
-/// are in order, and neither side has a bag literal.
+/// The sums of both sides of the question of a rule that has its condition at a well-formed goal are in order, and no bag
+/// literal of them stands under a quantifier.
 pub fn questions_can_be_asked()
     ensures { QuestionsCanBeAsked }
 {
     approximation_is_ordered();
-    approximation_has_no_bags();
+    approximation_is_plain();
 }

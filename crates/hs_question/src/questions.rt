@@ -4,25 +4,27 @@ ghost use Rattle.std.specs.Prelude.{◌≡◌, ◌≤◌, ◌<◌, ◌+◌, ◌^
 ghost use Rattle.hs_pure.specs.declared.pure.Pure.TheVariants.{Or};
 ghost use Rattle.hs_heap.specs.Sound.{IsSound};
 ghost use Rattle.hs_goal.specs.Shape.{GoalFits};
-ghost use Rattle.hs_xpure.specs.Approximation.{approximation_of, next_of};
+ghost use Rattle.hs_xpure.specs.Approximation.{approximation_of, next_of, conjunction};
+ghost use Rattle.hs_xpure.specs.Laws.{HasLowNumbers};
 ghost use Rattle.hs_xpure.specs.declared.error.XError.TheVariants.{Numbers};
 ghost use Rattle.hs_rules.specs.Parts.{left_atoms, left_pure};
 ghost use Rattle.hs_rules.specs.Questions.{known, asked, question_of};
 ghost use Rattle.hs_rules.specs.Rules.{Applies, TakesTooMany};
+ghost use Rattle.hs_question.specs.Asked.{SidesAreLow};
 
 use crate::asking::{asked, conjunction};
 use crate::parts::{atoms_of, pure_of, push_atoms, push_conjuncts};
 use hs_goal::{ERule, Goal, Question};
 use hs_heap::{Atom, Defs};
 use hs_pure::{NoMemory, Pure};
-use hs_xpure::{XError, approximation};
+use hs_xpure::{XError, approximation, new_numbers_are_in_range};
 use sqlite_items::Items;
 use std::alloc::Global;
 
 /// The question of a rule that applies to a well-formed goal, for those rules that ask one.
 ///
 /// `Numbers` comes only where the approximation of the used and the left atoms takes more than 2^30 new numbers.
-/// `Memory` comes where there is none.
+/// `Memory` comes where there is none. The numbers of both sides are below 2^31.
 #[tactic(auto, using(crate::proofs::Rows::false_level, crate::proofs::Rows::empty_level))]
 pub fn question(
     alloc: Global,
@@ -35,6 +37,7 @@ pub fn question(
     requires applies { Applies defs.now goal.now rule.now }
     ensures exact { IfOk result (λ q. q ≡ question_of defs.now goal.now rule.now) }
     ensures numbers { IsErrOf result Numbers → TakesTooMany defs.now goal.now rule.now }
+    ensures low { IfOk result SidesAreLow }
 {
     match rule {
         ERule::False(level) => Ok(Some(contradiction(alloc, defs, goal, *level)?)),
@@ -59,6 +62,7 @@ fn contradiction(alloc: Global, defs: &Defs, goal: &Goal, level: u32) -> Result<
     requires level { level ≤ 3 }
     ensures exact { IfOk result (λ q. q ≡ record { left = known defs.now goal.now level; right = Or [] }) }
     ensures numbers { IsErrOf result Numbers → goal.now.next + 2 ^ 30 < next_of defs.now level (goal.now.used ++ left_atoms goal.now) goal.now.next }
+    ensures low { IfOk result (λ q. HasLowNumbers q.left × HasLowNumbers q.right) }
 {
     let left = known(alloc, defs, goal, level)?;
     Ok(Question {
@@ -74,6 +78,7 @@ fn implication(alloc: Global, defs: &Defs, goal: &Goal, level: u32) -> Result<Qu
     requires level { level ≤ 3 }
     ensures exact { IfOk result (λ q. q ≡ record { left = known defs.now goal.now level; right = asked goal.now }) }
     ensures numbers { IsErrOf result Numbers → goal.now.next + 2 ^ 30 < next_of defs.now level (goal.now.used ++ left_atoms goal.now) goal.now.next }
+    ensures low { IfOk result (λ q. HasLowNumbers q.left × HasLowNumbers q.right) }
 {
     let left = known(alloc, defs, goal, level)?;
     let right = asked(alloc, goal)?;
@@ -90,8 +95,10 @@ fn known(alloc: Global, defs: &Defs, goal: &Goal, level: u32) -> Result<Items<Pu
     requires level { level ≤ 3 }
     ensures exact { IfOk result (λ ps. ps ≡ approximation_of defs.now level (goal.now.used ++ left_atoms goal.now) goal.now.next ++ left_pure goal.now) }
     ensures numbers { IsErrOf result Numbers → goal.now.next + 2 ^ 30 < next_of defs.now level (goal.now.used ++ left_atoms goal.now) goal.now.next }
+    ensures low { IfOk result (λ ps. HasLowNumbers (conjunction ps)) }
 {
     let atoms = known_atoms(alloc, goal)?;
+    new_numbers_are_in_range();
     let (mut pure, _) = approximation(alloc, defs, level, atoms.as_slice(), goal.next)?;
     push_conjuncts(alloc, &mut pure, pure_of(&goal.left))?;
     Ok(pure)

@@ -1,9 +1,8 @@
 -- What is known of bodies and invariants at a root and arguments.
-use Rattle.std.proofs.Common.{◌≡◌, ℕ, suc, zero, ◌<◌, ◌≤◌, true, false, ◌||◌, IsTrue, ◌⊎◌, List, [], ◌∷◌, map, Option, Some, None, slice_get, option_map, refl, sym, ap, ◌∙◌, subst}
+use Rattle.std.proofs.Common.{◌≡◌, ℕ, suc, zero, ◌<◌, ◌≤◌, false, IsTrue, ◌⊎◌, List, [], ◌∷◌, map, Some, None, slice_get, option_map, refl, sym, ap, ◌∙◌, subst}
 use Rattle.std.specs.List.{list_any, All, AllByRecursion}
 use Rattle.std.proofs.lemmas.List.Elements.{All-nil, All-cons, All-head, All-tail}
 use Rattle.hs_pure.specs.declared.var.Var.{Var}
-use Rattle.hs_pure.specs.declared.pure.Pure.{Pure}
 use Rattle.hs_pure.specs.Occurs.{is_bound, occurs}
 use Rattle.hs_pure.specs.Sums.{KeepsKinds}
 use Rattle.hs_pure.proofs.Vars.{or_left, or_right}
@@ -15,8 +14,8 @@ use Rattle.hs_heap.specs.declared.definitions.Defs.{Defs}
 use Rattle.hs_heap.specs.Meaning.{is_in, self_var, pred_at}
 use Rattle.hs_heap.specs.Variables.{occurs_in_formula}
 use Rattle.hs_heap.specs.Sound.{AtomFits, IsSound, argument_kinds, kinds}
-use Rattle.hs_heap.specs.Renamed.{renamed_atom, renamed_disjunct, is_bound_in_disjunct, is_bound_in_formula}
-use Rattle.hs_heap.specs.Instance.{Body, BodyFits, CaseFits, ArgumentsFit, body_of, body_of_pred, body_of_inv, body_or_none, new_number, body_renaming, instantiated, instantiated_inv, next_after}
+use Rattle.hs_heap.specs.Renamed.{renamed_atom, renamed_disjunct, is_bound_in_disjunct}
+use Rattle.hs_heap.specs.Instance.{Body, BodyFits, CaseFits, ArgumentsFit, body_of_pred, body_of_inv, body_or_none, new_number, body_renaming, instantiated, instantiated_inv, next_after}
 use Rattle.hs_heap.proofs.Bodies.{put-kind}
 use Rattle.hs_heap.proofs.Satisfied.{sound_bodies_fit, instantiated_binds_new}
 use Rattle.hs_xpure.specs.Laws.{IsBetween}

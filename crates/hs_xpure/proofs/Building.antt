@@ -1,14 +1,13 @@
 -- What is formed, step by step.
-use Rattle.std.proofs.Common.{rules, ◌≡◌, ℕ, zero, suc, ◌+◌, ◌-◌, ◌<◌, ◌≤◌, ◌||◌, IsTrue, inl, inr, List, [], ◌∷◌, ◌++◌, map, take, length, get_or, Option, Some, None, IsSome, refl, sym, ap, ◌∙◌, subst, arith}
-use Rattle.std.specs.List.{list_any, All}
+use Rattle.std.proofs.Common.{rules, ◌≡◌, ℕ, zero, suc, ◌+◌, ◌<◌, ◌≤◌, IsTrue, inl, inr, List, [], ◌∷◌, ◌++◌, take, length, get_or, Option, Some, None, IsSome, refl, sym, ap, ◌∙◌, arith}
+use Rattle.std.specs.List.{list_any}
 use Rattle.std.proofs.lemmas.Bool.{or_cases}
 use Rattle.std.proofs.lemmas.List.{append-nil, append_assoc, take_more}
-use Rattle.std.proofs.lemmas.List.Elements.{All-nil, All-cons, All-head, All-tail, All-get_or, All-from_recursion}
+use Rattle.std.proofs.lemmas.List.Elements.{All-nil, All-cons, All-head, All-get_or}
 use Rattle.hs_pure.specs.declared.var.Var.{Var}
 use Rattle.hs_pure.specs.declared.pure.Pure.{Pure}
 use Rattle.hs_pure.proofs.Vars.{or_left, or_right}
-use Rattle.hs_heap.specs.declared.formula.Of.{Of}
-use Rattle.hs_heap.specs.declared.formula.Of.TheVariants.{Node, Pred}
+use Rattle.hs_heap.specs.declared.formula.Of.TheVariants.{Pred}
 use Rattle.hs_heap.specs.declared.formula.Atom.{Atom}
 use Rattle.hs_heap.specs.declared.formula.Disjunct.{Disjunct}
 use Rattle.hs_heap.specs.declared.definitions.PredDef.{PredDef}
@@ -16,15 +15,15 @@ use Rattle.hs_heap.specs.declared.definitions.Defs.{Defs}
 use Rattle.hs_heap.specs.Meaning.{pred_at, is_in}
 use Rattle.hs_heap.specs.Variables.{in_atom, occurs_in_disjunct}
 use Rattle.hs_heap.specs.Sound.{AtomFits, PredIsSound, IsSound}
-use Rattle.hs_heap.specs.Instance.{Body, ArgumentsFit, body_of, body_of_pred, body_of_inv, body_or_none, instantiated, instantiated_inv, next_after}
+use Rattle.hs_heap.specs.Instance.{ArgumentsFit, body_of, body_of_pred, body_of_inv, body_or_none, instantiated, instantiated_inv, next_after}
 use Rattle.hs_xpure.specs.declared.formed.Formed.{Formed}
-use Rattle.hs_xpure.specs.Approximation.{Former, unformed, combined, atoms_formed, case_formed, cases_formed, body_cases, body_formed, inv_formed, inv_of, inv_and_body_of, of_formed, form}
-use Rattle.hs_xpure.specs.Counts.{Taken, of_taken, atoms_taken, cases_taken, own_taken, body_taken, inv_taken, inv_and_body_taken, pred_taken}
+use Rattle.hs_xpure.specs.Approximation.{Former, unformed, combined, atoms_formed, case_formed, cases_formed, inv_formed, inv_of, form}
+use Rattle.hs_xpure.specs.Counts.{Taken, of_taken, atoms_taken, cases_taken, pred_taken}
 use Rattle.hs_xpure.specs.Invariants.{pred_atom}
 use Rattle.hs_xpure.specs.Laws.{AtomsFit, CasesFit, IsInAtoms}
 use Rattle.hs_xpure.proofs.Bodies.{CasesAtomsFit, pred_in, no_pred, arguments_fit, pred_body_fits, body_atoms_fit, body_uses}
 use Rattle.hs_xpure.proofs.Numbers.{InCases, AreBelow, atoms_in_case}
-use Rattle.hs_xpure.proofs.Counting.{Counts, atoms_next, cases_next, form_next, inv_next}
+use Rattle.hs_xpure.proofs.Counting.{atoms_next, cases_next, form_next}
 
 combined-none : (f : Formed) → combined f (unformed f.next) ≡ f
 combined-none f = let e = append-nil f.pure in let g = append-nil f.addresses in λ i. record { pure = e i; addresses = g i; next = f.next }

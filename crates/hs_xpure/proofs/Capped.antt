@@ -1,5 +1,5 @@
 -- Counts that are not larger than need be.
-use Rattle.std.proofs.Common.{◌≡◌, ℕ, zero, suc, ◌+◌, ◌-◌, ◌<◌, ◌≤◌, min, List, [], ◌∷◌, ◌++◌, map, length, get_or, slice_get, take, Option, Some, None, Result, refl, sym, ap, ◌∙◌, arith}
+use Rattle.std.proofs.Common.{◌≡◌, ℕ, zero, suc, ◌+◌, ◌-◌, ◌<◌, ◌≤◌, List, [], ◌∷◌, ◌++◌, map, length, get_or, slice_get, take, Option, Some, None, Result, refl, sym, ap, ◌∙◌, arith}
 use Rattle.std.specs.Result.{IfOk}
 use Rattle.std.proofs.lemmas.List.{take_more, take_all, map_more}
 use Rattle.std.proofs.lemmas.Option.{slice_get-get_or, get_or_from_slice_get}
@@ -136,6 +136,9 @@ is_many taken n fresh next e f g = omega arith
 
 pub is_not_many : (taken n fresh : ℕ) → taken ≡ capped n → taken ≤ 1073741824 → fresh ≤ 1073741824 → fresh + n ≤ 2147483648
 is_not_many taken n fresh e f g = omega arith
+
+pub is_few : (taken n fresh next : ℕ) → taken ≡ capped n → taken ≤ 1073741824 → next ≡ fresh + n → next ≤ fresh + 1073741824
+is_few taken n fresh next e f g = omega arith
 
 pub atoms_next_of : (defs : Defs) (level : ℕ) (atoms : List Atom) (n : ℕ) → next_of defs level atoms n ≡ n + atoms_taken (pred_taken defs level) atoms
 atoms_next_of defs level atoms n = atoms_next (pred_taken defs level) (form defs level) (form_next defs level) atoms n

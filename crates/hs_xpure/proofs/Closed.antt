@@ -1,12 +1,12 @@
 -- What holds of all that approximations are made of holds of approximations.
-use Rattle.std.proofs.Common.{◌≡◌, ℕ, zero, suc, ℤ, pos, false, ◌||◌, List, [], ◌∷◌, ◌++◌, map, length, Option, Some, None, refl, sym, ap, ◌∙◌, subst, arith}
+use Rattle.std.proofs.Common.{◌≡◌, ℕ, zero, suc, ◌^◌, ◌<◌, false, not, IsTrue, inl, inr, List, [], ◌∷◌, ◌++◌, map, length, Option, Some, None, refl, sym, ap, ◌∙◌, subst, arith}
 use Rattle.std.specs.List.{All, AllByRecursion, list_any, flat_map}
 use Rattle.std.proofs.lemmas.List.Elements.{All-nil, All-cons, All-head, All-tail, All-append, All-weaker, All-from_recursion}
 use Rattle.hs_pure.specs.declared.var.Var.{Var}
 use Rattle.hs_pure.specs.declared.lin.Lin.{Lin}
 use Rattle.hs_pure.specs.declared.pure.Pure.{Pure}
 use Rattle.hs_pure.specs.declared.pure.Pure.TheVariants.{Eq, Lt, Not, And, Or}
-use Rattle.hs_pure.specs.Occurs.{BagUse, bag_use, bag_use_level, has_bags}
+use Rattle.hs_pure.specs.Occurs.{BagUse, bag_use, bag_use_level, is_bags_plain}
 use Rattle.hs_pure.specs.Rename.{sums, sums_level, renamed}
 use Rattle.hs_pure.specs.Sums.{LinIsOrdered, IsOrdered, KeepsKinds}
 use Rattle.hs_pure.proofs.Weight.{ordered-renamed, bag_use-renamed}
@@ -18,13 +18,17 @@ use Rattle.hs_heap.specs.declared.formula.Disjunct.{Disjunct}
 use Rattle.hs_heap.specs.declared.definitions.PredDef.{PredDef}
 use Rattle.hs_heap.specs.declared.definitions.Defs.{Defs}
 use Rattle.hs_heap.specs.Meaning.{pred_at, self_var}
+use Rattle.hs_heap.specs.WellFormed.{IsWellFormed}
 use Rattle.hs_heap.specs.Sound.{AtomFits, PureFits, DisjunctFits, PredIsSound, IsSound, kinds}
 use Rattle.hs_heap.specs.Renamed.{renamed_disjunct}
-use Rattle.hs_heap.specs.Instance.{Body, BodyFits, body_of, body_of_pred, body_of_inv, body_or_none, body_renaming, instantiated, next_after}
-use Rattle.hs_xpure.specs.declared.formed.Formed.{Formed}
+use Rattle.hs_heap.specs.Instance.{BodyFits, body_of, body_of_pred, body_of_inv, body_or_none, body_renaming, instantiated, next_after}
 use Rattle.hs_xpure.specs.Approximation.{Former, conjunction, disjunction, address, variable, null, apart, all_apart, atoms_formed, case_formed, cases_formed, body_cases, body_formed, node_formed, inv_formed, inv_of, inv_and_body_of, of_formed, form, approximation_of, xpure_of}
 use Rattle.hs_xpure.specs.Invariants.{pred_atom, invariant_premise}
-use Rattle.hs_xpure.specs.Laws.{ApproximationIsOrdered, ApproximationHasNoBags, PremiseCanBeAsked}
+use Rattle.hs_xpure.specs.Laws.{ApproximationIsOrdered, ApproximationIsPlain, PremiseCanBeAsked, PremiseIsLow}
+use Rattle.hs_xpure.proofs.Used.{all_use_weaker, uses_disjunction}
+use Rattle.hs_xpure.proofs.Numbers.{IsOldOrNew, InArguments, body_cases_fit, form_fits}
+use Rattle.hs_xpure.proofs.Own.{own_fit}
+use Rattle.hs_xpure.proofs.Few.{premise_takes_few}
 use Rattle.hs_xpure.proofs.Bodies.{CasesAtomsFit, pred_in, pred_kinds, no_pred, pred_body_fits, keeps, cases_atoms_fit}
 
 pub record Closed (P : Pure → Type 0) : Type 0 where
@@ -184,49 +188,83 @@ ordered_closed = record {
   rename = λ ρ keep p f. ordered-renamed ρ keep p f;
 }
 
--- ---- no bag literals
+-- ---- bag literals under no quantifier
 
-abbrev NoBags : Pure → Type 0
-NoBags p = has_bags p ≡ false
+abbrev IsPlain : Pure → Type 0
+IsPlain p = IsTrue (is_bags_plain p)
 
-none_of : (ps : List Pure) → AllByRecursion NoBags ps → list_any (λ (u : BagUse). u.has) (map bag_use ps) ≡ false
+not_under : (p : Pure) → IsPlain p → (bag_use p).under ≡ false
+not_under p h = grind arith
+
+plain_of : (p : Pure) → (bag_use p).under ≡ false → IsPlain p
+plain_of p e = subst (λ b. IsTrue (not b)) (sym e) refl
+
+none_of : (ps : List Pure) → AllByRecursion IsPlain ps → list_any (λ (u : BagUse). u.under) (map bag_use ps) ≡ false
 none_of [] f = refl
-none_of (p ∷ ps) (f, fs) = let e = none_of ps fs in grind arith
+none_of (p ∷ ps) (f, fs) = let d = not_under p f in let e = none_of ps fs in grind arith
 
-pub no_bags_closed : Closed NoBags
-no_bags_closed = record {
-  all = λ ps n f. ap (λ (u : BagUse). u.has) (fold-And bag_use_level ps) ∙ none_of ps f;
-  some = λ ps n f. ap (λ (u : BagUse). u.has) (fold-Or bag_use_level ps) ∙ none_of ps f;
-  not = λ p f. ap (λ (u : BagUse). u.has) (fold-Not bag_use_level p) ∙ f;
-  equal = λ u v e f. ap (λ (b : BagUse). b.has) (fold-Eq bag_use_level (variable u) (variable v));
-  is_null = λ u e. ap (λ (b : BagUse). b.has) (fold-Eq bag_use_level (variable u) null);
-  positive = λ u e. ap (λ (b : BagUse). b.has) (fold-Lt bag_use_level null (variable u));
-  rename = λ ρ keep p f. ap (λ (b : BagUse). b.has) (bag_use-renamed ρ p) ∙ f;
+pub plain_closed : Closed IsPlain
+plain_closed = record {
+  all = λ ps n f. plain_of (And ps) (ap (λ (u : BagUse). u.under) (fold-And bag_use_level ps) ∙ none_of ps f);
+  some = λ ps n f. plain_of (Or ps) (ap (λ (u : BagUse). u.under) (fold-Or bag_use_level ps) ∙ none_of ps f);
+  not = λ p f. plain_of (Not p) (ap (λ (u : BagUse). u.under) (fold-Not bag_use_level p) ∙ not_under p f);
+  equal = λ u v e f. plain_of (Eq (variable u) (variable v)) (ap (λ (b : BagUse). b.under) (fold-Eq bag_use_level (variable u) (variable v)));
+  is_null = λ u e. plain_of (Eq (variable u) null) (ap (λ (b : BagUse). b.under) (fold-Eq bag_use_level (variable u) null));
+  positive = λ u e. plain_of (Lt null (variable u)) (ap (λ (b : BagUse). b.under) (fold-Lt bag_use_level null (variable u)));
+  rename = λ ρ keep p f. plain_of (renamed ρ p) (ap (λ (b : BagUse). b.under) (bag_use-renamed ρ p) ∙ not_under p f);
 }
 
 -- ---- the laws
 
-inside_ordered : (defs : Defs) → IsSound defs → All (Inside IsOrdered) defs.preds
-inside_ordered defs sound = All-weaker (PredIsSound defs) (Inside IsOrdered) one defs.preds sound.preds
-  where
-    one : (p : PredDef) → PredIsSound defs p → Inside IsOrdered p
-    one p f = (
-      f.invariant.formed.ordered,
-      All-weaker (DisjunctFits defs (self_var ∷ p.params) p.next) (λ (d : Disjunct). All IsOrdered d.pure) (λ d g. All-weaker (PureFits (self_var ∷ p.params) p.next) IsOrdered (λ q h. h.formed.ordered) d.pure g.pure) p.body.cases f.body,
-    )
+module _ (P : Pure → Type 0) (formed : (p : Pure) → IsWellFormed p → P p) (defs : Defs) (sound : IsSound defs) where
+  inside_formed : All (Inside P) defs.preds
+  inside_formed = All-weaker (PredIsSound defs) (Inside P) one defs.preds sound.preds
+    where
+      one : (p : PredDef) → PredIsSound defs p → Inside P p
+      one p f = (
+        formed p.inv f.invariant.formed,
+        All-weaker (DisjunctFits defs (self_var ∷ p.params) p.next) (λ (d : Disjunct). All P d.pure) (λ d g. All-weaker (PureFits (self_var ∷ p.params) p.next) P (λ q h. formed q h.formed) d.pure g.pure) p.body.cases f.body,
+      )
+
+module _ (defs : Defs) (sound : IsSound defs) where
+  inside_ordered : All (Inside IsOrdered) defs.preds
+  inside_ordered = inside_formed IsOrdered (λ p f. f.ordered) defs sound
+
+  inside_plain : All (Inside IsPlain) defs.preds
+  inside_plain = inside_formed IsPlain (λ p f. f.plain) defs sound
 
 pub approximation_is_ordered : ApproximationIsOrdered
 approximation_is_ordered defs sound level n atoms fits = approximation_closed IsOrdered ordered_closed defs sound (inside_ordered defs sound) level n atoms fits
 
-pub approximation_has_no_bags : ApproximationHasNoBags
-approximation_has_no_bags defs sound none level n atoms fits = approximation_closed NoBags no_bags_closed defs sound none level n atoms fits
+pub approximation_is_plain : ApproximationIsPlain
+approximation_is_plain defs sound level n atoms fits = approximation_closed IsPlain plain_closed defs sound (inside_plain defs sound) level n atoms fits
 
 pub premise_can_be_asked : PremiseCanBeAsked
-premise_can_be_asked defs sound none pred p e =
+premise_can_be_asked defs sound pred p e =
     let fits = pred_body_fits defs sound pred p e in
     let ordered = inside_ordered defs sound in
+    let plain = inside_plain defs sound in
     let own = pred_in (Inside IsOrdered) defs pred p ordered e in
-    let bags = pred_in (Inside NoBags) defs pred p none e in (
-      (premise_closed IsOrdered ordered_closed defs sound ordered p fits own, premise_closed NoBags no_bags_closed defs sound none p fits bags),
-      (own.0, bags.0),
+    let bags = pred_in (Inside IsPlain) defs pred p plain e in (
+      record { ordered = premise_closed IsOrdered ordered_closed defs sound ordered p fits own; plain = premise_closed IsPlain plain_closed defs sound plain p fits bags },
+      record { ordered = own.0; plain = bags.0 },
+    )
+
+-- ---- numbers
+
+abbrev IsLow : Var → Type 0
+IsLow v = v.number < 2 ^ 31
+
+pub premise_is_low : PremiseIsLow
+premise_is_low defs sound pred p e =
+    let whole = pred_in (PredIsSound defs) defs pred p sound.preds e in
+    let bounded = whole.head.bounded in
+    let few = premise_takes_few defs sound pred p e in
+    let own = own_fit defs sound pred p e in
+    let cases = body_cases_fit defs (form defs 0) (form_fits defs sound 0) (body_of_pred p) (pred_body_fits defs sound pred p e) self_var p.params p.next own in
+    let formed = body_cases (form defs 0) (body_of_pred p) self_var p.params p.next in (
+      uses_disjunction IsLow formed.pure
+          (all_use_weaker (IsOldOrNew (InArguments self_var p.params) p.next formed.next) IsLow
+          (λ v o. elim o [ inl i ↦ let d = own.below v i in omega arith | inr k ↦ let (low, high) = k in omega arith ]) formed.pure cases.pure),
+      λ v o. let (some', below) = whole.invariant.numbers v o in omega arith,
     )

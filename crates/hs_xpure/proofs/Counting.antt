@@ -1,5 +1,5 @@
 -- What is formed takes as many numbers as are counted.
-use Rattle.std.proofs.Common.{◌≡◌, ℕ, zero, suc, ◌+◌, List, [], ◌∷◌, map, Option, Some, None, refl, sym, ap, ◌∙◌, arith}
+use Rattle.std.proofs.Common.{◌≡◌, ℕ, zero, suc, ◌+◌, List, [], ◌∷◌, map, Option, Some, None, refl, ap, arith}
 use Rattle.hs_pure.specs.declared.var.Var.{Var}
 use Rattle.hs_heap.specs.declared.formula.Of.{Of}
 use Rattle.hs_heap.specs.declared.formula.Of.TheVariants.{Node, Pred}
@@ -9,9 +9,9 @@ use Rattle.hs_heap.specs.declared.definitions.PredDef.{PredDef}
 use Rattle.hs_heap.specs.declared.definitions.Defs.{Defs}
 use Rattle.hs_heap.specs.Meaning.{pred_at}
 use Rattle.hs_heap.specs.Renamed.{renamed_atom, renamed_disjunct}
-use Rattle.hs_heap.specs.Instance.{Body, body_of, body_of_pred, body_of_inv, body_or_none, body_renaming, instantiated, next_after}
+use Rattle.hs_heap.specs.Instance.{Body, body_of_pred, body_or_none, body_renaming, instantiated, next_after}
 use Rattle.hs_xpure.specs.Approximation.{Former, atoms_formed, case_formed, cases_formed, body_cases, body_formed, inv_formed, inv_of, inv_and_body_of, of_formed, form}
-use Rattle.hs_xpure.specs.Counts.{Taken, of_taken, atoms_taken, cases_taken, own_taken, body_taken, inv_taken, inv_and_body_taken, pred_taken}
+use Rattle.hs_xpure.specs.Counts.{Taken, of_taken, atoms_taken, cases_taken, body_taken, inv_taken, inv_and_body_taken, pred_taken}
 
 -- each atom takes what is counted
 abbrev pub Counts : Taken → Former → Type 0

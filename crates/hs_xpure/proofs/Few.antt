@@ -1,8 +1,7 @@
 -- A body at level 0 takes few numbers.
-use Rattle.std.proofs.Common.{◌≡◌, ℕ, zero, suc, ◌+◌, ◌*◌, ◌≤◌, Bool, true, false, if◌then◌else◌, List, [], ◌∷◌, length, inl, inr, Option, Some, None, option_map, refl, sym, ap, ◌∙◌, arith}
+use Rattle.std.proofs.Common.{◌≡◌, ℕ, zero, suc, ◌+◌, ◌*◌, ◌≤◌, Bool, List, [], ◌∷◌, length, inl, inr, Option, Some, None, option_map, refl, ap, arith}
 use Rattle.std.specs.List.{All}
 use Rattle.std.proofs.lemmas.List.Elements.{All-nil, All-cons, All-head, All-tail}
-use Rattle.hs_pure.specs.declared.var.Var.{Var}
 use Rattle.hs_heap.specs.declared.formula.Of.{Of}
 use Rattle.hs_heap.specs.declared.formula.Of.TheVariants.{Node, Pred}
 use Rattle.hs_heap.specs.declared.formula.Atom.{Atom}
@@ -14,7 +13,7 @@ use Rattle.hs_heap.specs.Sound.{AtomFits, PredIsSound, IsSound, IsShort, argumen
 use Rattle.hs_heap.specs.Instance.{Body, body_of_pred, body_of_inv, is_other, count_below}
 use Rattle.hs_heap.proofs.Booleans.{bool_cases}
 use Rattle.hs_xpure.specs.Approximation.{body_next}
-use Rattle.hs_xpure.specs.Counts.{Taken, of_taken, atoms_taken, cases_taken, own_taken, body_taken, inv_taken, pred_taken}
+use Rattle.hs_xpure.specs.Counts.{Taken, of_taken, atoms_taken, cases_taken, own_taken, inv_taken, pred_taken}
 use Rattle.hs_xpure.specs.Laws.{PremiseTakesFew, PremiseCanBeFormed}
 use Rattle.hs_xpure.specs.Invariants.{pred_atom}
 use Rattle.hs_xpure.proofs.Bodies.{pred_in}

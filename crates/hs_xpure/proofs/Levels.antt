@@ -1,13 +1,11 @@
 -- Every level of the approximation is true wherever the atoms hold, and invariants hold where each follows from
 -- its body.
-use Rattle.std.proofs.Common.{◌≡◌, ◌⊎◌, inl, inr, ℕ, zero, suc, ◌<◌, ◌≤◌, ℤ, pos, ◌<ℤ◌, Bool, true, false, ◌||◌, IsTrue, List, [], ◌∷◌, ◌++◌, map, Option, Some, None, slice_get, refl, sym, ◌∙◌, ap, arith, subst, if◌then◌else◌}
-use Rattle.std.specs.List.{list_any, All}
+use Rattle.std.proofs.Common.{◌≡◌, ◌⊎◌, inl, inr, ℕ, zero, suc, ◌<◌, ◌≤◌, ℤ, pos, ◌<ℤ◌, Bool, true, false, ◌||◌, IsTrue, List, [], ◌∷◌, map, Option, Some, None, refl, sym, ◌∙◌, ap, arith, subst, if◌then◌else◌}
+use Rattle.std.specs.List.{All}
 use Rattle.std.proofs.lemmas.List.Elements.{All-from_recursion}
 use Rattle.hs_pure.specs.declared.var.Var.{Var}
-use Rattle.hs_pure.specs.declared.pure.Pure.{Pure}
 use Rattle.hs_pure.specs.Stack.{Stack, Value, same, with_value, number_value}
 use Rattle.hs_pure.specs.Truth.{TrueAt}
-use Rattle.hs_pure.specs.Occurs.{is_free}
 use Rattle.hs_pure.proofs.Agree.{truth-agree}
 use Rattle.hs_pure.proofs.Renamed.{free-occurs_of}
 use Rattle.hs_pure.proofs.Vars.{or_left, or_right}
@@ -17,22 +15,20 @@ use Rattle.hs_heap.specs.declared.formula.Atom.{Atom}
 use Rattle.hs_heap.specs.declared.definitions.PredDef.{PredDef}
 use Rattle.hs_heap.specs.declared.definitions.Defs.{Defs}
 use Rattle.hs_heap.specs.Heap.{Heap, Parts, IsHeap}
-use Rattle.hs_heap.specs.Meaning.{Argument, argument_at, parameter_value, field_value, is_in, self_var, with_arguments, pred_at, body_stack, OfHolds, AtomHolds, AtomsHold, BodyHolds, AllTrueAt, FormulaHolds, SatisfiesAtDepth, SatisfiesAtoms, meaning_at_depth}
-use Rattle.hs_heap.specs.Variables.{in_atom}
-use Rattle.hs_heap.specs.Sound.{AtomFits, IsNumbered, AreNumberedFrom, PredIsSound, IsSound, argument_kinds, kinds}
-use Rattle.hs_heap.specs.Instance.{Body, BodyFits, ArgumentsFit, body_of, body_of_pred, body_of_inv, body_or_none, instantiated, instantiated_inv, next_after, stack_of_body}
+use Rattle.hs_heap.specs.Meaning.{Argument, argument_at, parameter_value, is_in, self_var, with_arguments, pred_at, body_stack, OfHolds, AtomHolds, AtomsHold, BodyHolds, SatisfiesAtDepth, meaning_at_depth}
+use Rattle.hs_heap.specs.Sound.{AtomFits, IsNumbered, AreNumberedFrom, PredIsSound, IsSound, kinds}
+use Rattle.hs_heap.specs.Instance.{ArgumentsFit, body_of, body_of_pred, body_or_none}
 use Rattle.hs_heap.proofs.Splits.{all_right, all_left, only_right, swap_parts}
 use Rattle.hs_heap.proofs.Stacks.{with_value-same, with_value-other, same_true, same_false, same_itself}
 use Rattle.hs_heap.proofs.Lists.{listed_forth}
 use Rattle.hs_heap.proofs.Free.{arguments_agree}
 use Rattle.hs_heap.proofs.Satisfied.{instantiated_means_body, instantiated_means_invariant}
-use Rattle.hs_xpure.specs.declared.formed.Formed.{Formed}
-use Rattle.hs_xpure.specs.Approximation.{Former, unformed, all_apart, address, atoms_formed, body_formed, inv_formed, inv_of, inv_and_body_of, node_formed, of_formed, form, approximation_of, xpure_of, next_of}
+use Rattle.hs_xpure.specs.Approximation.{Former, all_apart, address, atoms_formed, body_formed, inv_formed, inv_of, inv_and_body_of, node_formed, of_formed, form, approximation_of}
 use Rattle.hs_xpure.specs.Invariants.{pred_atom, InvariantsHold, InvariantFollows}
-use Rattle.hs_xpure.specs.Laws.{AtomsFit, ApproximationIsTrue, InvariantsAreShown, NewNumbersAreInRange}
-use Rattle.hs_xpure.proofs.Used.{Uses, AllUse, all_use-append, uses_all_apart}
+use Rattle.hs_xpure.specs.Laws.{ApproximationIsTrue, InvariantsAreShown, NewNumbersAreInRange}
+use Rattle.hs_xpure.proofs.Used.{Uses, all_use-append, uses_all_apart}
 use Rattle.hs_xpure.proofs.Bodies.{pred_in, no_pred, arguments_fit, pred_kinds, pred_body_fits, pred_inv_fits}
-use Rattle.hs_xpure.proofs.Numbers.{IsOldOrNew, FormerFits, AreBelow, InAtom, InAtoms, InArguments, addresses_in, below_later, inv_fits, form_fits, atoms_fit}
+use Rattle.hs_xpure.proofs.Numbers.{IsOldOrNew, FormerFits, AreBelow, InAtoms, InArguments, addresses_in, below_later, inv_fits, form_fits, atoms_fit}
 use Rattle.hs_xpure.proofs.Places.{AreAddresses, no_addresses, IsPlace, at_address, all_true-append, true_equal, true_positive}
 use Rattle.hs_xpure.proofs.Shown.{AgreeBelow, IsShown, FormerShows, formed_below, combined_shown, conjunction_true, atoms_shown, body_shown}
 

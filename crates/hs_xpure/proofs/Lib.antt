@@ -9,5 +9,5 @@ mod Building
 mod Steps
 mod Capped
 mod Own
-mod Closed
 mod Few
+mod Closed

@@ -1,6 +1,6 @@
 -- The numbers that an approximation takes.
-use Rattle.std.proofs.Common.{◌≡◌, ℕ, zero, suc, ◌+◌, ◌<◌, ◌≤◌, ◌||◌, IsTrue, ◌⊎◌, inl, inr, List, [], ◌∷◌, ◌++◌, Option, Some, None, arith, refl, ⊎_elim}
-use Rattle.std.specs.List.{list_any, All, AllByRecursion}
+use Rattle.std.proofs.Common.{◌≡◌, ℕ, zero, suc, ◌<◌, ◌≤◌, ◌||◌, IsTrue, ◌⊎◌, inl, inr, List, [], ◌∷◌, ◌++◌, Option, Some, None, arith, refl}
+use Rattle.std.specs.List.{list_any, All}
 use Rattle.std.proofs.lemmas.List.Elements.{All-head, All-tail}
 use Rattle.hs_pure.specs.declared.var.Var.{Var}
 use Rattle.hs_pure.specs.declared.pure.Pure.{Pure}
@@ -17,12 +17,12 @@ use Rattle.hs_heap.specs.Meaning.{is_in, pred_at}
 use Rattle.hs_heap.specs.Variables.{in_atom, occurs_in_disjunct}
 use Rattle.hs_heap.specs.Sound.{AtomFits, IsSound}
 use Rattle.hs_heap.proofs.Stacks.{same_itself}
-use Rattle.hs_heap.specs.Instance.{Body, BodyFits, ArgumentsFit, body_of, body_of_pred, body_of_inv, body_or_none, instantiated, next_after}
+use Rattle.hs_heap.specs.Instance.{Body, BodyFits, ArgumentsFit, body_of, body_of_pred, body_or_none, instantiated, next_after}
 use Rattle.hs_xpure.specs.declared.formed.Formed.{Formed}
-use Rattle.hs_xpure.specs.Approximation.{Former, unformed, combined, conjunction, disjunction, address, all_apart, atoms_formed, case_formed, cases_formed, body_cases, body_formed, node_formed, inv_formed, inv_of, inv_and_body_of, of_formed, form}
+use Rattle.hs_xpure.specs.Approximation.{Former, unformed, combined, address, all_apart, atoms_formed, case_formed, cases_formed, body_cases, body_formed, node_formed, inv_formed, inv_of, inv_and_body_of, of_formed, form}
 use Rattle.hs_xpure.specs.Laws.{IsBetween}
 use Rattle.hs_xpure.specs.Invariants.{pred_atom}
-use Rattle.hs_xpure.proofs.Used.{Uses, AllUse, AddressesIn, all_use_weaker, all_use-append, uses_conjunction, uses_disjunction, uses_all_apart, uses_equal, uses_positive}
+use Rattle.hs_xpure.proofs.Used.{AllUse, AddressesIn, all_use_weaker, all_use-append, uses_conjunction, uses_disjunction, uses_all_apart, uses_equal, uses_positive}
 use Rattle.hs_xpure.proofs.Bodies.{CasesAtomsFit, no_pred, arguments_fit, pred_body_fits, pred_inv_fits, inv_uses, body_uses, body_atoms_fit}
 
 -- of what was there, or new

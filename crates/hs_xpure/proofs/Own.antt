@@ -1,12 +1,12 @@
 -- A predicate's own `self` and parameters as root and arguments.
-use Rattle.std.proofs.Common.{◌≡◌, ℕ, ◌+◌, ◌<◌, ◌≤◌, IsTrue, List, [], ◌∷◌, Option, Some, None, Result, refl, sym, ap, ◌∙◌, subst, arith}
+use Rattle.std.proofs.Common.{◌≡◌, ℕ, ◌+◌, ◌<◌, List, ◌∷◌, Some, Result, refl, sym, ap, subst, arith}
 use Rattle.std.specs.Result.{IfOk}
 use Rattle.hs_pure.specs.declared.var.Var.{Var}
 use Rattle.hs_heap.specs.declared.formula.Of.TheVariants.{Pred}
 use Rattle.hs_heap.specs.declared.definitions.PredDef.{PredDef}
 use Rattle.hs_heap.specs.declared.definitions.Defs.{Defs}
-use Rattle.hs_heap.specs.Meaning.{self_var, is_in, pred_at}
-use Rattle.hs_heap.specs.Sound.{IsNumbered, PredIsSound, IsSound, kinds}
+use Rattle.hs_heap.specs.Meaning.{self_var, pred_at}
+use Rattle.hs_heap.specs.Sound.{IsNumbered, PredIsSound, IsSound}
 use Rattle.hs_heap.specs.Instance.{Body, ArgumentsFit, body_of, body_of_pred, body_or_none}
 use Rattle.hs_heap.proofs.Lists.{listed_forth}
 use Rattle.hs_xpure.specs.Counts.{capped, listed, body_taken, pred_taken, table}

@@ -1,13 +1,12 @@
 -- Addresses that are null or places of a heap, and differ.
-use Rattle.std.proofs.Common.{◌≡◌, ◌⊎◌, inl, inr, ℕ, ◌<◌, ◌≤◌, ℤ, pos, ◌+ℤ◌, ◌*ℤ◌, ◌<ℤ◌, true, false, Bool, if◌then◌else◌, nat_lt, List, [], ◌∷◌, ◌++◌, map, refl, sym, ap, ◌∙◌, subst, arith}
+use Rattle.std.proofs.Common.{◌≡◌, ◌⊎◌, inl, inr, ℕ, ◌<◌, ◌≤◌, ℤ, pos, ◌<ℤ◌, true, false, Bool, if◌then◌else◌, nat_lt, List, [], ◌∷◌, ◌++◌, map, refl, sym, ap, ◌∙◌, subst, arith}
 use Rattle.std.proofs.lemmas.Int.{ints}
 use Rattle.std.proofs.lemmas.Bool.Decides.{nat_tests}
 use Rattle.hs_pure.specs.declared.var.Var.{Var}
 use Rattle.hs_pure.specs.declared.pure.Pure.{Pure}
-use Rattle.hs_pure.specs.declared.pure.Pure.TheVariants.{Eq, Lt, Not, Or}
-use Rattle.hs_pure.specs.Stack.{Stack, Value, number_value}
+use Rattle.hs_pure.specs.declared.pure.Pure.TheVariants.{Eq, Lt, Not}
+use Rattle.hs_pure.specs.Stack.{Stack, number_value}
 use Rattle.hs_pure.specs.Truth.{value, TrueAt}
-use Rattle.std.specs.List.{Any}
 use Rattle.hs_pure.proofs.Truths.{true-Eq, true-Lt, true-Not, true-Or, Any-first, Any-later}
 use Rattle.hs_heap.specs.Heap.{Heap, Parts, none, left, right, RisesFrom, IsHeap}
 use Rattle.hs_heap.specs.Meaning.{AllTrueAt}

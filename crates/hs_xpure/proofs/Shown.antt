@@ -1,13 +1,12 @@
 -- The approximation of atoms is true wherever they hold.
-use Rattle.std.proofs.Common.{◌≡◌, ◌⊎◌, inl, inr, ℕ, ◌+◌, ◌<◌, ◌≤◌, ℤ, pos, ◌||◌, IsTrue, false, List, [], ◌∷◌, ◌++◌, map, refl, sym, ap, ◌∙◌, arith, subst}
+use Rattle.std.proofs.Common.{◌≡◌, ◌⊎◌, inl, inr, ℕ, ◌<◌, ◌≤◌, ℤ, pos, List, [], ◌∷◌, ◌++◌, refl, sym, ap, ◌∙◌, arith, subst}
 use Rattle.std.specs.List.{list_any, All, Any, AllByRecursion}
 use Rattle.std.proofs.lemmas.List.Elements.{All-head, All-tail, All-from_recursion}
 use Rattle.hs_pure.specs.declared.var.Var.{Var}
 use Rattle.hs_pure.specs.declared.pure.Pure.{Pure}
-use Rattle.hs_pure.specs.declared.pure.Pure.TheVariants.{And, Or}
 use Rattle.hs_pure.specs.Stack.{Stack, Value}
 use Rattle.hs_pure.specs.Truth.{TrueAt}
-use Rattle.hs_pure.specs.Occurs.{is_free, occurs}
+use Rattle.hs_pure.specs.Occurs.{occurs}
 use Rattle.hs_pure.proofs.Vars.{or_left, or_right}
 use Rattle.hs_pure.proofs.Truths.{true-And, true-Or, Any-first, Any-later, Any-cases, Any-nil}
 use Rattle.hs_pure.proofs.Agree.{truth-agree}
@@ -25,10 +24,9 @@ use Rattle.hs_heap.proofs.Booleans.{bool_cases}
 use Rattle.hs_heap.proofs.Satisfied.{atoms_are_of_variables}
 use Rattle.hs_xpure.specs.declared.formed.Formed.{Formed}
 use Rattle.hs_xpure.specs.Approximation.{Former, combined, conjunction, disjunction, address, all_apart, atoms_formed, case_formed, cases_formed, body_cases, body_formed}
-use Rattle.hs_xpure.specs.Laws.{IsBetween}
-use Rattle.hs_xpure.proofs.Used.{Uses, AllUse, AddressesIn, all_use_weaker, uses_all_apart}
+use Rattle.hs_xpure.proofs.Used.{AllUse, AddressesIn, all_use_weaker, uses_all_apart}
 use Rattle.hs_xpure.proofs.Bodies.{CasesAtomsFit, CasesBindFrom, body_atoms_fit, body_binds}
-use Rattle.hs_xpure.proofs.Numbers.{IsOldOrNew, Within, FormedFits, FormerFits, AreBelow, InAtom, InAtoms, InPures, InCase, InCases, InArguments, below_later, atoms_in_case, pures_in_case, atoms_fit, case_fits, cases_fit, body_below}
+use Rattle.hs_xpure.proofs.Numbers.{IsOldOrNew, Within, FormedFits, FormerFits, AreBelow, InAtom, InAtoms, InPures, InCase, InCases, below_later, atoms_in_case, pures_in_case, case_fits, cases_fit, body_below}
 use Rattle.hs_xpure.proofs.Places.{AreAddresses, no_addresses, both_addresses, null_addresses, at_address, AllNull, cut, cut_below, cut_null, all_true-append, IsPlace, Placed}
 
 -- the stacks agree on numbers below n

@@ -13,10 +13,10 @@ use Rattle.hs_heap.specs.declared.definitions.PredDef.{PredDef}
 use Rattle.hs_heap.specs.declared.definitions.Defs.{Defs}
 use Rattle.hs_heap.specs.Meaning.{pred_at}
 use Rattle.hs_heap.specs.Sound.{IsSound}
-use Rattle.hs_heap.specs.Instance.{Body, body_of, body_of_pred, body_or_none, body_renaming, instantiated, next_after}
+use Rattle.hs_heap.specs.Instance.{body_of, body_of_pred, body_or_none, body_renaming, instantiated, next_after}
 use Rattle.hs_xpure.specs.declared.formed.Formed.{Formed}
-use Rattle.hs_xpure.specs.Approximation.{Former, unformed, combined, case_of, atoms_formed, cases_formed, body_cases, body_of_cases, node_formed, inv_of, inv_and_body_of, of_formed, form}
-use Rattle.hs_xpure.specs.Counts.{Taken, of_taken, atoms_taken, cases_taken, own_taken, body_taken, inv_taken, inv_and_body_taken, pred_taken}
+use Rattle.hs_xpure.specs.Approximation.{Former, combined, case_of, atoms_formed, cases_formed, body_cases, body_of_cases, node_formed, inv_of, inv_and_body_of, of_formed, form}
+use Rattle.hs_xpure.specs.Counts.{Taken, of_taken, atoms_taken, cases_taken, body_taken, inv_taken, inv_and_body_taken, pred_taken}
 use Rattle.hs_xpure.specs.Invariants.{pred_atom}
 use Rattle.hs_xpure.specs.Laws.{AtomsFit, CasesFit}
 use Rattle.hs_xpure.proofs.Counting.{inv_next, renamed_cases_taken}

@@ -1,5 +1,5 @@
 -- What occurs in formulas that join several.
-use Rattle.std.proofs.Common.{◌≡◌, ℕ, Bool, false, ◌||◌, IsTrue, ◌⊎◌, ⊎_elim, List, [], ◌∷◌, ◌++◌, map, ◌∙◌, subst}
+use Rattle.std.proofs.Common.{◌≡◌, ℕ, Bool, false, ◌||◌, IsTrue, ⊎_elim, List, [], ◌∷◌, ◌++◌, map, ◌∙◌, subst}
 use Rattle.std.specs.List.{list_any, AllByRecursion}
 use Rattle.hs_pure.specs.declared.var.Var.{Var}
 use Rattle.hs_pure.specs.declared.lin.Lin.{Lin}

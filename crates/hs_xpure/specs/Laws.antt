@@ -1,11 +1,11 @@
 -- What the layers above use of approximations.
-use Rattle.std.specs.Prelude.{◌≡◌, ℕ, ◌+◌, ◌^◌, ◌<◌, ◌≤◌, ◌⊎◌, false, IsTrue, List, [], ◌∷◌, Some}
+use Rattle.std.specs.Prelude.{◌≡◌, ℕ, ◌+◌, ◌^◌, ◌<◌, ◌≤◌, ◌⊎◌, IsTrue, List, [], ◌∷◌, Some}
 use Rattle.std.specs.List.{All, list_any}
 use Rattle.hs_pure.specs.declared.var.Var.{Var}
 use Rattle.hs_pure.specs.declared.pure.Pure.{Pure}
 use Rattle.hs_pure.specs.Stack.{Stack}
 use Rattle.hs_pure.specs.Truth.{TrueAt}
-use Rattle.hs_pure.specs.Occurs.{occurs, has_bags}
+use Rattle.hs_pure.specs.Occurs.{occurs, is_bags_plain}
 use Rattle.hs_pure.specs.Sums.{IsOrdered}
 use Rattle.hs_heap.specs.declared.formula.Atom.{Atom}
 use Rattle.hs_heap.specs.declared.formula.Disjunct.{Disjunct}
@@ -54,28 +54,34 @@ NewNumbersAreInRange = (defs : Defs) → IsSound defs → (level n : ℕ) (atoms
     (n ≤ next_of defs level atoms n)
     × All (λ p. (v : Var) → IsTrue (occurs v p) → IsInAtoms atoms v ⊎ IsBetween n (next_of defs level atoms n) v) (approximation_of defs level atoms n)
 
--- no conjunct of a body and no invariant has a bag literal
-abbrev pub HasNoBags : Defs → Type 0
-HasNoBags defs = All (λ p. (has_bags p.inv ≡ false) × All (λ d. All (λ q. has_bags q ≡ false) d.pure) p.body.cases) defs.preds
+-- the sums of the formula are in order, and none of its bag literals stands under a quantifier or an AllOf
+pub record CanBeAsked (p : Pure) : Type 0 where
+  pub ordered : IsOrdered p
+  pub plain : IsTrue (is_bags_plain p)
 
--- what `implies` asks of a formula
-abbrev pub CanBeAsked : Pure → Type 0
-CanBeAsked p = IsOrdered p × (has_bags p ≡ false)
+-- its numbers leave room for those that deciding takes
+abbrev pub HasLowNumbers : Pure → Type 0
+HasLowNumbers p = (v : Var) → IsTrue (occurs v p) → v.number < 2 ^ 31
 
 -- the sums of the approximation are in order
 abbrev pub ApproximationIsOrdered : Type 0
 ApproximationIsOrdered = (defs : Defs) → IsSound defs → (level n : ℕ) (atoms : List Atom) → All (AtomFits defs) atoms →
     All IsOrdered (approximation_of defs level atoms n) × IsOrdered (xpure_of defs level atoms n)
 
--- where the definitions have no bag literal, the approximation has none
-abbrev pub ApproximationHasNoBags : Type 0
-ApproximationHasNoBags = (defs : Defs) → IsSound defs → HasNoBags defs → (level n : ℕ) (atoms : List Atom) → All (AtomFits defs) atoms →
-    All (λ p. has_bags p ≡ false) (approximation_of defs level atoms n) × (has_bags (xpure_of defs level atoms n) ≡ false)
+-- no bag literal of the approximation stands under a quantifier
+abbrev pub ApproximationIsPlain : Type 0
+ApproximationIsPlain = (defs : Defs) → IsSound defs → (level n : ℕ) (atoms : List Atom) → All (AtomFits defs) atoms →
+    All (λ p. IsTrue (is_bags_plain p)) (approximation_of defs level atoms n) × IsTrue (is_bags_plain (xpure_of defs level atoms n))
 
 -- the question that shows an invariant may be asked
 abbrev pub PremiseCanBeAsked : Type 0
-PremiseCanBeAsked = (defs : Defs) → IsSound defs → HasNoBags defs → (pred : ℕ) (p : PredDef) → pred_at defs pred ≡ Some p →
+PremiseCanBeAsked = (defs : Defs) → IsSound defs → (pred : ℕ) (p : PredDef) → pred_at defs pred ≡ Some p →
     CanBeAsked (invariant_premise defs p) × CanBeAsked p.inv
+
+-- and has low numbers
+abbrev pub PremiseIsLow : Type 0
+PremiseIsLow = (defs : Defs) → IsSound defs → (pred : ℕ) (p : PredDef) → pred_at defs pred ≡ Some p →
+    HasLowNumbers (invariant_premise defs p) × HasLowNumbers p.inv
 
 -- the premise can be formed: the predicate at `self` and its own parameters fits, with numbers below a small next
 abbrev pub PremiseCanBeFormed : Type 0

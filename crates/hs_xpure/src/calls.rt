@@ -41,6 +41,7 @@ pub fn approximation(
     requires level { level ≤ 3 }
     ensures exact { IfOk result (λ r. r.0 ≡ approximation_of defs.now level atoms.now fresh) }
     ensures next { IfOk result (λ r. r.1 ≡ next_of defs.now level atoms.now fresh) }
+    ensures few { IfOk result (λ r. r.1 ≤ fresh + 2 ^ 30) }
     ensures numbers { IsErrOf result Numbers → fresh + 2 ^ 30 < next_of defs.now level atoms.now fresh }
 {
     let taken = numbers_of_atoms(alloc, defs, level, atoms)?;
@@ -71,6 +72,7 @@ pub fn xpure(
     requires level { level ≤ 3 }
     ensures exact { IfOk result (λ r. r.0 ≡ xpure_of defs.now level atoms.now fresh) }
     ensures next { IfOk result (λ r. r.1 ≡ next_of defs.now level atoms.now fresh) }
+    ensures few { IfOk result (λ r. r.1 ≤ fresh + 2 ^ 30) }
     ensures numbers { IsErrOf result Numbers → fresh + 2 ^ 30 < next_of defs.now level atoms.now fresh }
 {
     let (pure, next) = approximation(alloc, defs, level, atoms, fresh)?;
@@ -95,6 +97,7 @@ pub fn body(
     requires level { level ≤ 3 }
     ensures exact { IfOk result (λ r. r.0 ≡ body_pure defs.now level (body_of defs.now (Pred pred)) root args.now fresh) }
     ensures next { IfOk result (λ r. r.1 ≡ body_next defs.now level (body_of defs.now (Pred pred)) root args.now fresh) }
+    ensures few { IfOk result (λ r. r.1 ≤ fresh + 2 ^ 30) }
     ensures numbers { IsErrOf result Numbers → fresh + 2 ^ 30 < body_next defs.now level (body_of defs.now (Pred pred)) root args.now fresh }
 {
     let taken = numbers_of_body(alloc, defs, level, pred)?;

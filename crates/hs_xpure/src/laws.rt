@@ -1,6 +1,6 @@
 //! Laws of approximations, for the proofs of the layers above. Each is the contract of a function without a body.
 
-ghost use Rattle.hs_xpure.specs.Laws.{ApproximationIsTrue, InvariantsAreShown, NewNumbersAreInRange, ApproximationIsOrdered, ApproximationHasNoBags, PremiseCanBeAsked, PremiseCanBeFormed, PremiseTakesFew};
+ghost use Rattle.hs_xpure.specs.Laws.{ApproximationIsTrue, InvariantsAreShown, NewNumbersAreInRange, ApproximationIsOrdered, ApproximationIsPlain, PremiseCanBeAsked, PremiseIsLow, PremiseCanBeFormed, PremiseTakesFew};
 
 /// Where invariants hold and a heap satisfies atoms, their approximation is true at every level, for some values
 /// of its new numbers.
@@ -24,14 +24,19 @@ pub fn approximation_is_ordered()
     ensures { ApproximationIsOrdered }
 {}
 
-/// Where no body and no invariant has a bag literal, the approximation of atoms has none.
-pub fn approximation_has_no_bags()
-    ensures { ApproximationHasNoBags }
+/// No bag literal of the approximation of atoms stands under a quantifier.
+pub fn approximation_is_plain()
+    ensures { ApproximationIsPlain }
 {}
 
-/// The question that shows an invariant is one that `implies` takes.
+/// The sums of the question that shows an invariant are in order, and no bag literal of it stands under a quantifier.
 pub fn premise_can_be_asked()
     ensures { PremiseCanBeAsked }
+{}
+
+/// The numbers of that question are below 2^31.
+pub fn premise_is_low()
+    ensures { PremiseIsLow }
 {}
 
 /// That question's left side can be formed by `body`.

@@ -18,7 +18,7 @@ mod shared;
 pub use calls::{approximation, body, xpure};
 pub use error::XError;
 pub use laws::{
-    approximation_has_no_bags, approximation_is_ordered, approximation_is_true,
-    invariants_are_shown, new_numbers_are_in_range, premise_can_be_asked, premise_can_be_formed,
+    approximation_is_ordered, approximation_is_plain, approximation_is_true, invariants_are_shown,
+    new_numbers_are_in_range, premise_can_be_asked, premise_can_be_formed, premise_is_low,
     premise_takes_few,
 };

@@ -2,7 +2,7 @@ use Rattle.std.proofs.Common.{◌++◌, ap, ◌∙◌}
 use Rattle.hs_xpure.specs.declared.formed.Formed.{Formed}
 use Rattle.hs_xpure.specs.Approximation.{all_apart, next_of}
 use Rattle.hs_xpure.specs.Counts.{atoms_taken, pred_taken}
-use Rattle.hs_xpure.proofs.Capped.{is_many, is_not_many, atoms_next_of}
+use Rattle.hs_xpure.proofs.Capped.{is_many, is_not_many, is_few, atoms_next_of}
 use Rattle.hs_xpure.proofs.calls.approximation.Goals as goal
 
 pub returns-then-taken-gt-MOST-clause-numbers : goal.returns-then-taken-gt-MOST-clause-numbers
@@ -17,3 +17,7 @@ returns-clause-exact c = c.in_ok-push_all_apart.ensures ∙ ap (λ ks. c.in_ok-p
 
 pub returns-clause-next : goal.returns-clause-next
 returns-clause-next c = ap (λ (f : Formed). f.next) c.in_ok-pure.ensures
+
+pub returns-clause-few : goal.returns-clause-few
+returns-clause-few c = is_few c.in_ok-taken.taken (atoms_taken (pred_taken c.args.defs.now c.args.level) c.args.atoms.now) c.args.fresh c.in_ok-pure.field-0.next c.in_ok-taken.ensures c.if-taken-gt-MOST.false
+    (ap (λ (f : Formed). f.next) c.in_ok-pure.ensures ∙ atoms_next_of c.args.defs.now c.args.level c.args.atoms.now c.args.fresh)

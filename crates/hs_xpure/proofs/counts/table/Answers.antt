@@ -1,5 +1,5 @@
-use Rattle.std.proofs.Common.{◌∙◌, ap, arith, sym}
-use Rattle.hs_xpure.specs.Counts.{table, taken_above}
+use Rattle.std.proofs.Common.{◌∙◌, ap}
+use Rattle.hs_xpure.specs.Counts.{taken_above}
 use Rattle.hs_xpure.proofs.Capped.{table_step, table_all}
 use Rattle.hs_xpure.proofs.counts.table.Goals as goal
 

@@ -1,6 +1,6 @@
 use Rattle.std.proofs.Common.{Some}
 use Rattle.hs_heap.specs.declared.definitions.PredDef.{PredDef}
-use Rattle.hs_xpure.specs.Counts.{capped, listed, inv_taken}
+use Rattle.hs_xpure.specs.Counts.{capped, inv_taken}
 use Rattle.hs_xpure.proofs.Capped.{pred_there, counts_step, counts_all}
 use Rattle.hs_xpure.proofs.counts.taken_at_0.Goals as goal
 

@@ -1,5 +1,4 @@
 use Rattle.std.proofs.Common.{rules, ◌≡◌, ◌-◌, suc, arith}
-use Rattle.hs_heap.specs.Instance.{body_of}
 use Rattle.hs_xpure.specs.Approximation.{form}
 use Rattle.hs_xpure.specs.Counts.{pred_taken}
 use Rattle.hs_xpure.proofs.Building.{pred_exists, pred_arguments, pred_room}
