@@ -10,7 +10,7 @@ use Rattle.hs_choices.specs.Laws.{QuestionsAreTold}
 answered_told : ImplicationsAreTold → (o : Option Question) → SidesCanBeAsked o → IsTrue (is_answered o) ↔ IsAnswered o
 unfolding is_true_question
 answered_told implied None can = (λ e. tt, λ e. refl)
-answered_told implied (Some q) can = implied q.left q.right can.0.1 can.1.1 can.0.0 can.1.0
+answered_told implied (Some q) can = implied q.left q.right can.0.plain can.1.plain can.0.ordered can.1.ordered
 
 pub questions_told : QuestionsCanBeAsked → ImplicationsAreTold → QuestionsAreTold
-questions_told asked implied defs sound none g fits bare rule = answered_told implied (question_of defs g rule) (asked defs sound none g fits bare rule)
+questions_told asked implied defs sound g fits rule has = answered_told implied (question_of defs g rule) (asked defs sound g fits rule has)

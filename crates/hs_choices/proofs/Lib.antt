@@ -3,7 +3,6 @@ pub mod Leaders
 pub mod Answered
 pub mod Tried
 pub mod Lighter
-pub mod Bare
 pub mod Least
 pub mod Untried
 pub mod LemmaSteps

@@ -3,12 +3,8 @@ use Rattle.std.specs.Prelude.{◌≡◌, ℕ, ◌<◌, ◌≤◌, ◌↔◌, fal
 use Rattle.std.specs.List.{All}
 use Rattle.hs_pure.specs.declared.var.Var.{Var}
 use Rattle.hs_pure.specs.declared.pure.Pure.{Pure}
-use Rattle.hs_pure.specs.Occurs.{has_bags}
-use Rattle.hs_heap.specs.declared.definitions.PredDef.{PredDef}
-use Rattle.hs_heap.specs.declared.definitions.Lemma.{Lemma}
 use Rattle.hs_heap.specs.declared.definitions.Defs.{Defs}
 use Rattle.hs_heap.specs.Sound.{IsSound}
-use Rattle.hs_xpure.specs.Laws.{HasNoBags}
 use Rattle.hs_goal.specs.declared.goal.Goal.{Goal}
 use Rattle.hs_goal.specs.declared.rule.ERule.{ERule}
 use Rattle.hs_goal.specs.Classes.{SameClass}
@@ -16,7 +12,6 @@ use Rattle.hs_goal.specs.Shape.{GoalFits}
 use Rattle.hs_rules.specs.Conditions.{HasCondition}
 use Rattle.hs_rules.specs.Subgoals.{subgoals_of}
 use Rattle.hs_rules.specs.Questions.{question_of, IsAnswered}
-use Rattle.hs_question.specs.Asked.{GoalHasNoBags}
 use Rattle.hs_choices.specs.Tests.{same_class, is_answered}
 use Rattle.hs_choices.specs.Choices.{choices, is_paid}
 use Rattle.hs_choices.specs.Weight.{weight}
@@ -28,10 +23,9 @@ use Rattle.hs_choices.specs.declared.error.Spent.{Spent}
 abbrev pub ClassesAreTold : Type 0
 ClassesAreTold = (ps : List Pure) (v w : Var) → IsTrue (same_class ps v w) ↔ SameClass ps v w
 
--- the test of questions is true exactly of questions that are true, where neither the definitions nor the goal have
--- bag literals
+-- the test of questions is true exactly of questions that are true, at rules that have their condition
 abbrev pub QuestionsAreTold : Type 0
-QuestionsAreTold = (defs : Defs) → IsSound defs → HasNoBags defs → (g : Goal) → GoalFits defs g → GoalHasNoBags g → (rule : ERule) →
+QuestionsAreTold = (defs : Defs) → IsSound defs → (g : Goal) → GoalFits defs g → (rule : ERule) → HasCondition defs g rule →
     IsTrue (is_answered (question_of defs g rule)) ↔ IsAnswered (question_of defs g rule)
 
 -- the conditions of the rules that are tried hold
@@ -47,14 +41,3 @@ ChoicesFall = (defs : Defs) (level : ℕ) (g : Goal) →
 abbrev pub ChoicesUseUp : Type 0
 ChoicesUseUp = (defs : Defs) (level atoms : ℕ) (g : Goal) →
     All (λ (rule : ERule). (s : Spent) → UsesUp defs g rule atoms s → IsSpentAt defs level atoms g s) (choices defs level g)
-
--- definitions over numbers alone: no bag literal, and no parameter that is a bag
-pub record AreOfNumbers (defs : Defs) : Type 0 where
-  pub preds : HasNoBags defs
-  pub lemmas : All (λ (l : Lemma). All (λ p. has_bags p ≡ false) l.right.pure) defs.lemmas
-  pub params : All (λ (p : PredDef). All (λ (v : Var). v.bag ≡ false) p.params) defs.preds
-
--- no rule that is tried brings a bag literal into a goal
-abbrev pub SubgoalsHaveNoBags : Type 0
-SubgoalsHaveNoBags = (defs : Defs) → AreOfNumbers defs → (g : Goal) → GoalFits defs g → GoalHasNoBags g → (level : ℕ) →
-    All (λ (rule : ERule). All GoalHasNoBags (subgoals_of defs g rule)) (choices defs level g)

@@ -2,10 +2,10 @@
 
 ghost use Rattle.std.specs.Prelude.{◌≡◌, ◌↔◌, ◌≤◌, ◌^◌, IfOk, IfErr, IsTrue};
 ghost use Rattle.hs_heap.specs.Sound.{IsSound};
-ghost use Rattle.hs_xpure.specs.Laws.{HasNoBags, CanBeAsked};
+ghost use Rattle.hs_xpure.specs.Laws.{CanBeAsked, HasLowNumbers};
 ghost use Rattle.hs_goal.specs.declared.rule.Obligation.TheVariants.{NotImplied};
 ghost use Rattle.hs_goal.specs.Shape.{GoalFits};
-ghost use Rattle.hs_question.specs.Asked.{GoalHasNoBags};
+ghost use Rattle.hs_question.specs.Asked.{SidesAreLow};
 ghost use Rattle.hs_rules.specs.Rules.{Applies, TakesTooMany};
 ghost use Rattle.hs_rules.specs.Questions.{question_of, IsTrueQuestion};
 ghost use Rattle.hs_choices.specs.declared.error.Spent.TheVariants.{Numbers, Atoms, Wide};
@@ -25,7 +25,7 @@ use std::alloc::Global;
 
 /// Why the question of a rule that applies to a well-formed goal is false: the question with values that make its left
 /// side true and its right side false. `None` where the question is true, or the rule asks none. The definitions are
-/// sound, neither they nor the goal have bag literals, and `atoms` is at most 2^30.
+/// sound, and `atoms` is at most 2^30.
 ///
 /// `Numbers` comes only where the approximation in the question takes more than 2^30 new numbers, `Atoms` where a stage
 /// of its plain decision has more than `atoms` atoms, and `Wide` where a number of that passes 128 bits. `Memory`
@@ -38,8 +38,6 @@ pub fn ask(
     atoms: u64,
 ) -> Result<Option<Obligation>, AskError>
     requires sound { IsSound defs.now }
-    requires no_bags { HasNoBags defs.now }
-    requires goal_bags { GoalHasNoBags goal.now }
     requires fits { GoalFits defs.now goal.now }
     requires applies { Applies defs.now goal.now rule.now }
     requires small { atoms ≤ 2 ^ 30 }
@@ -63,8 +61,6 @@ pub fn is_answered(
     atoms: u64,
 ) -> Result<bool, AskError>
     requires sound { IsSound defs.now }
-    requires no_bags { HasNoBags defs.now }
-    requires goal_bags { GoalHasNoBags goal.now }
     requires fits { GoalFits defs.now goal.now }
     requires applies { Applies defs.now goal.now rule.now }
     requires small { atoms ≤ 2 ^ 30 }
@@ -91,6 +87,7 @@ fn asked(
     requires applies { Applies defs.now goal.now rule.now }
     ensures exact { IfOk result (λ q. q ≡ question_of defs.now goal.now rule.now) }
     ensures spent { IfErr result (IfSpent (λ s. (s ≡ Numbers) × TakesTooMany defs.now goal.now rule.now)) }
+    ensures low { IfOk result SidesAreLow }
 {
     match question(alloc, defs, goal, rule) {
         Ok(Some(q)) => Ok(Some(boxed(alloc, q)?)),
@@ -110,6 +107,8 @@ fn boxed(alloc: Global, q: Question) -> Result<Boxed<Question>, NoMemory>
 fn refutation(alloc: Global, q: &Question, atoms: u64) -> Result<Option<Obligation>, AskError>
     requires left { CanBeAsked q.now.left }
     requires right { CanBeAsked q.now.right }
+    requires left_low { HasLowNumbers q.now.left }
+    requires right_low { HasLowNumbers q.now.right }
     requires small { atoms ≤ 2 ^ 30 }
     ensures told { IfOk result (IsTold q.now) }
     ensures spent { IfErr result (IfSpent (IsUsedUp q.now atoms)) }
@@ -126,6 +125,8 @@ fn refutation(alloc: Global, q: &Question, atoms: u64) -> Result<Option<Obligati
 fn is_true(alloc: Global, q: &Question, atoms: u64) -> Result<bool, AskError>
     requires left { CanBeAsked q.now.left }
     requires right { CanBeAsked q.now.right }
+    requires left_low { HasLowNumbers q.now.left }
+    requires right_low { HasLowNumbers q.now.right }
     requires small { atoms ≤ 2 ^ 30 }
     ensures told { IfOk result (λ b. IsTrue b ↔ IsTrueQuestion q.now) }
     ensures spent { IfErr result (IfSpent (IsUsedUp q.now atoms)) }

@@ -5,10 +5,8 @@ ghost use Rattle.hs_goal.specs.declared.rule.ERule.TheVariants as rule_of;
 ghost use Rattle.std.specs.List.{All};
 ghost use Rattle.hs_pure.specs.Sums.{IsOrdered};
 ghost use Rattle.hs_heap.specs.Sound.{IsSound};
-ghost use Rattle.hs_xpure.specs.Laws.{HasNoBags};
 ghost use Rattle.hs_goal.specs.Classes.{IsSimple};
 ghost use Rattle.hs_goal.specs.Shape.{GoalFits};
-ghost use Rattle.hs_question.specs.Asked.{GoalHasNoBags};
 ghost use Rattle.hs_rules.specs.Parts.{right_pure};
 ghost use Rattle.hs_choices.specs.Places.{all_places};
 ghost use Rattle.hs_choices.specs.Asked.{IfSpent};
@@ -39,8 +37,6 @@ pub fn choices(
     atoms: u64,
 ) -> Result<Vec<ERule>, AskError>
     requires sound { IsSound defs.now }
-    requires no_bags { HasNoBags defs.now }
-    requires goal_bags { GoalHasNoBags goal.now }
     requires fits { GoalFits defs.now goal.now }
     requires small { atoms ≤ 2 ^ 30 }
     requires level { level ≤ 3 }
@@ -69,8 +65,6 @@ fn is_contradictory(
     atoms: u64,
 ) -> Result<bool, AskError>
     requires sound { IsSound defs.now }
-    requires no_bags { HasNoBags defs.now }
-    requires goal_bags { GoalHasNoBags goal.now }
     requires fits { GoalFits defs.now goal.now }
     requires small { atoms ≤ 2 ^ 30 }
     requires level { level ≤ 3 }

@@ -1,10 +1,9 @@
 //! What the layers above use of choices. Each law is the contract of a function that does nothing; the calls in it
 //! bring the laws that its proof takes from the layers below.
 
-ghost use Rattle.hs_choices.specs.Laws.{ClassesAreTold, QuestionsAreTold, ChoicesHaveConditions, ChoicesFall, ChoicesUseUp, SubgoalsHaveNoBags};
+ghost use Rattle.hs_choices.specs.Laws.{ClassesAreTold, QuestionsAreTold, ChoicesHaveConditions, ChoicesFall, ChoicesUseUp};
 
 use hs_implication::implications_are_told;
-use hs_pure::renamed_bag_use;
 use hs_question::questions_can_be_asked;
 use hs_side_rules::equations_are_told;
 
@@ -13,8 +12,8 @@ pub fn classes_are_told()
     ensures { ClassesAreTold }
 {}
 
-/// Where neither the definitions nor a well-formed goal have bag literals, the test of the question of a rule is true
-/// exactly where the question is true at every stack.
+/// The test of the question of a rule that has its condition at a well-formed goal is true exactly where the question is
+/// true at every stack.
 pub fn questions_are_told()
     ensures { QuestionsAreTold }
 {
@@ -41,13 +40,4 @@ pub fn choices_use_up()
     ensures { ChoicesUseUp }
 {
     equations_are_told();
-}
-
-/// Over definitions of numbers alone, the subgoals of each rule that is tried have no bag literal where a well-formed
-/// goal has none.
-pub fn subgoals_have_no_bags()
-    ensures { SubgoalsHaveNoBags }
-{
-    equations_are_told();
-    renamed_bag_use();
 }

@@ -22,6 +22,5 @@ pub use choosing::choices;
 pub use error::{AskError, Spent};
 pub use laws::{
     choices_fall, choices_have_conditions, choices_use_up, classes_are_told, questions_are_told,
-    subgoals_have_no_bags,
 };
 pub use stopping::stuck;

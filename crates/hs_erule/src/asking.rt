@@ -2,9 +2,8 @@
 
 ghost use Rattle.std.specs.Prelude.{◌≡◌, ◌≤◌, ◌^◌, IfOk};
 ghost use Rattle.hs_heap.specs.Sound.{IsSound};
-ghost use Rattle.hs_xpure.specs.Laws.{HasNoBags, CanBeAsked};
+ghost use Rattle.hs_xpure.specs.Laws.{CanBeAsked, HasLowNumbers};
 ghost use Rattle.hs_goal.specs.Shape.{GoalFits};
-ghost use Rattle.hs_question.specs.Asked.{GoalHasNoBags};
 ghost use Rattle.hs_rules.specs.Rules.{Applies};
 ghost use Rattle.hs_erule.specs.Judged.{IsVerdict, IsDecidedVerdict, verdict_of, IsAnswerTo, IsDecidedTo};
 
@@ -32,6 +31,8 @@ fn verdict_of(answer: Answer) -> NodeAnswer
 fn verdict(alloc: Global, q: &Question, atoms: u64) -> Result<NodeAnswer, NoMemory>
     requires left { CanBeAsked q.now.left }
     requires right { CanBeAsked q.now.right }
+    requires left_low { HasLowNumbers q.now.left }
+    requires right_low { HasLowNumbers q.now.right }
     requires small { atoms ≤ 2 ^ 30 }
     ensures judged { IfOk result (IsVerdict atoms q.now) }
     ensures decided { IfOk result (IsDecidedVerdict atoms q.now) }
@@ -49,8 +50,6 @@ pub fn answer(
     atoms: u64,
 ) -> Result<NodeAnswer, NoMemory>
     requires sound { IsSound defs.now }
-    requires no_bags { HasNoBags defs.now }
-    requires goal_bags { GoalHasNoBags goal.now }
     requires small { atoms ≤ 2 ^ 30 }
     requires fits { GoalFits defs.now goal.now }
     requires applies { Applies defs.now goal.now rule.now }

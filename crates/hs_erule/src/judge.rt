@@ -2,9 +2,7 @@
 
 ghost use Rattle.std.specs.Prelude.{◌≡◌, ◌↔◌, ◌≤◌, ◌^◌, IfOk, IsTrue};
 ghost use Rattle.hs_heap.specs.Sound.{IsSound};
-ghost use Rattle.hs_xpure.specs.Laws.{HasNoBags};
 ghost use Rattle.hs_goal.specs.Shape.{GoalFits};
-ghost use Rattle.hs_question.specs.Asked.{GoalHasNoBags};
 ghost use Rattle.hs_rules.specs.Residues.{residue_of};
 ghost use Rattle.hs_question.specs.Steps.{HasResidue};
 ghost use Rattle.hs_rules.specs.Rules.{Applies};
@@ -22,7 +20,7 @@ use sqlite_items::Items;
 use std::alloc::Global;
 
 /// Whether a goal with a residue follows from premises, goals with residues in order, by a rule. The definitions are
-/// sound, neither they nor the goal have bag literals, and `atoms` is at most 2^30.
+/// sound, and `atoms` is at most 2^30.
 ///
 /// `Wrong` has the first test that fails, in the order of [`Reason`]. `Numbers`, `Atoms` and `Wide` come only where
 /// all tests but that of the question pass: `Numbers` where its approximation takes more than 2^30 new numbers, `Atoms`
@@ -38,8 +36,6 @@ pub fn right(
     atoms: u64,
 ) -> Result<NodeAnswer, NoMemory>
     requires sound { IsSound defs.now }
-    requires no_bags { HasNoBags defs.now }
-    requires goal_bags { GoalHasNoBags goal.now }
     requires small { atoms ≤ 2 ^ 30 }
     ensures judged { IfOk result (IsJudged defs.now goal.now residue.now rule.now premises.now atoms) }
     ensures decided { IfOk result (IsDecidedTo defs.now goal.now rule.now atoms) }
@@ -62,8 +58,6 @@ fn by_rule(
     atoms: u64,
 ) -> Result<NodeAnswer, NoMemory>
     requires sound { IsSound defs.now }
-    requires no_bags { HasNoBags defs.now }
-    requires goal_bags { GoalHasNoBags goal.now }
     requires small { atoms ≤ 2 ^ 30 }
     requires fits { GoalFits defs.now goal.now }
     ensures judged { IfOk result (IsJudged defs.now goal.now residue.now rule.now premises.now atoms) }
@@ -106,8 +100,6 @@ fn by_residue(
     atoms: u64,
 ) -> Result<NodeAnswer, NoMemory>
     requires sound { IsSound defs.now }
-    requires no_bags { HasNoBags defs.now }
-    requires goal_bags { GoalHasNoBags goal.now }
     requires small { atoms ≤ 2 ^ 30 }
     requires fits { GoalFits defs.now goal.now }
     requires applies { Applies defs.now goal.now rule.now }

@@ -15,7 +15,7 @@ use Rattle.hs_calculus.proofs.Induct.{derivations_have}
 use Rattle.hs_rules.specs.Laws.{SubgoalsAreWellFormed}
 use Rattle.hs_steps.specs.Laws.{JoinedProofsAreProofs, ResidueIsShown}
 use Rattle.hs_choices.specs.Asked.{IsRefuted}
-use Rattle.hs_choices.specs.Laws.{ChoicesHaveConditions, QuestionsAreTold, SubgoalsHaveNoBags}
+use Rattle.hs_choices.specs.Laws.{ChoicesHaveConditions, QuestionsAreTold}
 use Rattle.hs_choices.specs.Stuck.{IsStuck, IsSpentAt}
 use Rattle.hs_choices.specs.declared.error.Spent.{Spent}
 use Rattle.hs_choices.specs.declared.error.Spent.TheVariants as spent
@@ -34,7 +34,6 @@ IsFound defs limits g =
 pub record Laws : Type 0 where
   pub conditions : ChoicesHaveConditions
   pub well_formed : SubgoalsAreWellFormed
-  pub no_bags : SubgoalsHaveNoBags
   pub told : QuestionsAreTold
   pub joined : JoinedProofsAreProofs
   pub shown : ResidueIsShown
@@ -43,7 +42,7 @@ module _ (laws : Laws) (defs : Defs) (limits : Limits) (g : Goal) (is : IsSleekG
   derivations_prove : AllByRecursion (Proves defs g) (derivations_of defs limits g)
   derivations_prove =
       derivations_have (entailments defs limits.level) (entailments_fall defs limits.level) (IsSleekGoal defs limits) (Proves defs)
-      (kept laws.conditions defs limits laws.well_formed laws.no_bags) (step_proves laws.conditions defs limits laws.told laws.joined laws.shown) limits.rank g is
+      (kept laws.conditions defs limits laws.well_formed) (step_proves laws.conditions defs limits laws.told laws.joined laws.shown) limits.rank g is
 
   first_prove : (proofs : List Proof) → proofs ≡ take limits.residues (derivations_of defs limits g) → All (Proves defs g) proofs
   first_prove proofs e =

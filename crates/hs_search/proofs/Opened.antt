@@ -23,7 +23,7 @@ use Rattle.hs_choices.specs.Asked.{UsesUp, IfSpent}
 use Rattle.hs_choices.specs.Stuck.{IsCrowded, IsSpentAt}
 use Rattle.hs_choices.specs.Tests.{is_answered}
 use Rattle.hs_choices.specs.Choices.{choices}
-use Rattle.hs_choices.specs.Laws.{ChoicesHaveConditions, ChoicesUseUp, SubgoalsHaveNoBags}
+use Rattle.hs_choices.specs.Laws.{ChoicesHaveConditions, ChoicesUseUp}
 use Rattle.hs_choices.specs.declared.error.Spent.{Spent}
 use Rattle.hs_choices.specs.declared.error.AskError.{AskError}
 use Rattle.hs_choices.specs.declared.error.AskError.TheVariants as error
@@ -58,16 +58,16 @@ module _ (defs : Defs) (limits : Limits) (g : Goal) (rule : ERule) (choice : Con
   crowded conditions is not_there = inl (rule, choice, λ room. not_there (choice_applies conditions defs limits g rule is choice room))
 
   -- the subgoals of a choice whose question is true
-  pub opened : ChoicesHaveConditions → SubgoalsAreWellFormed → SubgoalsHaveNoBags → IsSleekGoal defs limits g → (goals found : List Goal)
+  pub opened : ChoicesHaveConditions → SubgoalsAreWellFormed → IsSleekGoal defs limits g → (goals found : List Goal)
       → Applies defs g rule × (goals ≡ subgoals_of defs g rule) → is_answered (question_of defs g rule) ≡ true → found ≡ goals
       → (holds defs g rule ≡ true) × (found ≡ subgoals_with_room defs g rule) × AllByRecursion (IsSleekGoal defs limits) found
-  opened conditions well_formed no_bags is goals found given answered same =
+  opened conditions well_formed is goals found given answered same =
       let room = room_to defs g rule given.0.room in
       let all : found ≡ subgoals_of defs g rule = same ∙ given.1 in (
         and_from _ _ room answered,
         all ∙ sym (with_room defs g rule room),
         subst (AllByRecursion (IsSleekGoal defs limits)) (sym all)
-            (recursion_from_All (IsSleekGoal defs limits) (subgoals_of defs g rule) (subgoals_are_goals conditions defs limits well_formed no_bags g rule is choice given.0)),
+            (recursion_from_All (IsSleekGoal defs limits) (subgoals_of defs g rule) (subgoals_are_goals conditions defs limits well_formed g rule is choice given.0)),
       )
 
   -- what the question of a choice uses up stops the search

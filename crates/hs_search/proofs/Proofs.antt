@@ -7,7 +7,6 @@ use Rattle.hs_heap.specs.declared.definitions.Defs.{Defs}
 use Rattle.hs_goal.specs.declared.goal.Goal.{Goal}
 use Rattle.hs_goal.specs.declared.rule.ERule.{ERule}
 use Rattle.hs_goal.specs.declared.rule.Limits.{Limits}
-use Rattle.hs_question.specs.Asked.{GoalHasNoBags}
 use Rattle.hs_rules.specs.Conditions.{HasCondition}
 use Rattle.hs_rules.specs.Subgoals.{subgoals_of}
 use Rattle.hs_rules.specs.Residues.{residue_of}
@@ -18,7 +17,7 @@ use Rattle.hs_steps.specs.Steps.{IsProofOf}
 use Rattle.hs_steps.specs.Joined.{residue_shown}
 use Rattle.hs_steps.specs.Laws.{AreProofsOf, JoinedProofsAreProofs, ResidueIsShown}
 use Rattle.hs_choices.specs.Choices.{choices}
-use Rattle.hs_choices.specs.Laws.{ChoicesHaveConditions, QuestionsAreTold, SubgoalsHaveNoBags}
+use Rattle.hs_choices.specs.Laws.{ChoicesHaveConditions, QuestionsAreTold}
 use Rattle.hs_search.specs.Entailments.{holds, subgoals_with_room, proof_by}
 use Rattle.hs_search.specs.Sleek.{IsSleekGoal}
 use Rattle.hs_search.proofs.Rooms.{holds_parts, room_from, with_room}
@@ -61,17 +60,14 @@ module _ (conditions : ChoicesHaveConditions) (defs : Defs) (limits : Limits) wh
     room = room;
   }
 
-  module _ (well_formed : SubgoalsAreWellFormed) (no_bags : SubgoalsHaveNoBags) where
+  module _ (well_formed : SubgoalsAreWellFormed) where
     pub subgoals_are_goals : (g : Goal) (rule : ERule) → IsSleekGoal defs limits g → Contains (choices defs limits.level g) rule
         → Applies defs g rule → All (IsSleekGoal defs limits) (subgoals_of defs g rule)
     subgoals_are_goals g rule is choice applies = λ k d low.
         record {
           sound = is.sound;
-          numbers = is.numbers;
           limits_fit = is.limits_fit;
           fits = well_formed defs is.sound g rule is.fits applies k d low;
-          goal_bags = All-contains (λ (rule : ERule). All GoalHasNoBags (subgoals_of defs g rule)) (choices defs limits.level g) rule
-              (no_bags defs is.numbers g is.fits is.goal_bags limits.level) choice k d low;
         }
 
     pub kept : (g : Goal) (rule : ERule) → IsSleekGoal defs limits g → Contains (choices defs limits.level g) rule → holds defs g rule ≡ true
@@ -93,7 +89,7 @@ module _ (conditions : ChoicesHaveConditions) (defs : Defs) (limits : Limits) wh
           applies = choice_applies g rule is choice (room_from defs g rule both.0);
           goals_are = goals_of defs (subgoals_of defs g rule) parts zip;
           residue_is = ap (residue_of g rule) (sym (residues_of defs (subgoals_of defs g rule) parts zip));
-          answered = (told defs is.sound is.numbers.preds g is.fits is.goal_bags rule).0 both.1;
+          answered = (told defs is.sound g is.fits rule (choice_applies g rule is choice (room_from defs g rule both.0)).condition).0 both.1;
         }
 
     pub step_proves : (g : Goal) (rule : ERule) (parts : List Proof) → IsSleekGoal defs limits g → Contains (choices defs limits.level g) rule → holds defs g rule ≡ true

@@ -7,7 +7,6 @@ use Rattle.hs_goal.specs.declared.rule.Obligation.{Obligation}
 use Rattle.hs_goal.specs.declared.rule.Cause.{Cause}
 use Rattle.hs_goal.specs.declared.rule.Cause.TheVariants as cause
 use Rattle.hs_goal.specs.Shape.{GoalFits}
-use Rattle.hs_question.specs.Asked.{GoalHasNoBags}
 use Rattle.hs_erule.specs.declared.step.Proof.{Proof}
 use Rattle.hs_calculus.specs.declared.calculus.Stop.{Stop}
 use Rattle.hs_calculus.specs.declared.calculus.Stop.TheVariants as stop
@@ -15,7 +14,6 @@ use Rattle.hs_calculus.specs.declared.answer.Cause.{Cause as Found}
 use Rattle.hs_calculus.specs.declared.answer.Cause.TheVariants as found
 use Rattle.hs_calculus.specs.declared.answer.Answer.{Answer}
 use Rattle.hs_calculus.specs.declared.answer.Answer.TheVariants as answer
-use Rattle.hs_choices.specs.Laws.{AreOfNumbers}
 use Rattle.hs_choices.specs.declared.error.Spent.{Spent}
 use Rattle.hs_choices.specs.declared.error.Spent.TheVariants as spent
 use Rattle.hs_choices.specs.declared.error.AskError.{AskError}
@@ -27,10 +25,8 @@ use Rattle.hs_search.specs.Answer.{LimitsFit}
 -- the goal can be searched for
 pub record IsSleekGoal (defs : Defs) (limits : Limits) (g : Goal) : Type 0 where
   pub sound : IsSound defs
-  pub numbers : AreOfNumbers defs
   pub limits_fit : LimitsFit limits
   pub fits : GoalFits defs g
-  pub goal_bags : GoalHasNoBags g
 
 -- where a question can't be answered the search stops
 abbrev pub stop_of : AskError → Stop Spent

@@ -3,15 +3,13 @@
 ghost use Rattle.std.specs.Prelude.{◌≡◌, IfOk};
 ghost use Rattle.hs_heap.specs.Sound.{IsSound};
 ghost use Rattle.hs_goal.specs.Shape.{GoalFits};
-ghost use Rattle.hs_question.specs.Asked.{GoalHasNoBags};
-ghost use Rattle.hs_choices.specs.Laws.{AreOfNumbers};
 ghost use Rattle.hs_search.specs.Sleek as spec;
 ghost use Rattle.hs_search.specs.Answer.{LimitsFit, IsSearchAnswer};
 
 use crate::answer::SleekAnswer;
 use crate::sleek::Sleek;
 use hs_calculus::{Answer, Bounds, Cause as Found, prove as search};
-use hs_choices::{Spent, choices_have_conditions, questions_are_told, subgoals_have_no_bags};
+use hs_choices::{Spent, choices_have_conditions, questions_are_told};
 use hs_erule::Proof;
 use hs_goal::{Cause, Goal, Limits, Obligation};
 use hs_heap::Defs;
@@ -45,8 +43,8 @@ fn answer_of(answer: Answer<Proof, Spent, Obligation>) -> SleekAnswer
     }
 }
 
-/// The first proofs of a goal, or why there are none. The definitions are sound and over numbers
-/// alone, the goal has no bag literals, and the limits are in their ranges.
+/// The first proofs of a goal, or why there are none. The definitions are sound, the goal is well formed, and the limits
+/// are in their ranges.
 ///
 /// `Goals` comes only where the tree of the goal at the rank has more goals than the limit; `Numbers`, `Atoms` and `Wide`
 /// only where a choice or a question of the tree takes too many numbers, atoms or bits; `Rank` only where there is no
@@ -59,16 +57,13 @@ pub fn prove(
     limits: &Limits,
 ) -> Result<SleekAnswer, NoMemory>
     requires sound { IsSound defs.now }
-    requires numbers { AreOfNumbers defs.now }
     requires fits { GoalFits defs.now goal.now }
-    requires goal_bags { GoalHasNoBags goal.now }
     requires limits { LimitsFit limits.now }
     ensures answer { IfOk result (IsSearchAnswer defs.now limits.now goal.now) }
 {
     choices_have_conditions();
     questions_are_told();
     subgoals_are_well_formed();
-    subgoals_have_no_bags();
     joined_proofs_are_proofs();
     residue_is_shown();
     let sleek = Sleek {

@@ -11,10 +11,7 @@ ghost use Rattle.hs_search.specs.Sleek as spec;
 ghost use Rattle.hs_search.specs.Sleek.{IsSleekGoal};
 
 use hs_calculus::{Calculus, Premises, Stop};
-use hs_choices::{
-    AskError, Spent, ask, choices, choices_have_conditions, choices_use_up, stuck,
-    subgoals_have_no_bags,
-};
+use hs_choices::{AskError, Spent, ask, choices, choices_have_conditions, choices_use_up, stuck};
 use hs_erule::{Proof, residue, subgoals};
 use hs_goal::{ERule, Goal, Limits, Obligation};
 use hs_heap::{Defs, Formula};
@@ -115,7 +112,6 @@ impl<'a> Calculus for Sleek<'a> {
         choices_have_conditions();
         choices_use_up();
         subgoals_are_well_formed();
-        subgoals_have_no_bags();
         let goals = match subgoals(alloc, self.defs, goal, rule) {
             Ok(goals) => goals,
             Err(RuleError::NotApplicable) => return Err(Stop::Spent(Spent::Numbers)),

@@ -1,9 +1,22 @@
-use Rattle.std.proofs.Common.{rules, ◌≡◌, Some}
+use Rattle.std.proofs.Common.{rules, ◌≡◌, Some, sym, subst}
 use Rattle.hs_rules.specs.Questions.{question_of}
+use Rattle.hs_question.specs.Asked.{SidesAreLow}
 use Rattle.hs_erule.specs.Judged.{IsVerdict, IsDecidedVerdict, IsAnswerTo, IsDecidedTo}
 use Rattle.hs_erule.proofs.Steps.{if_ok}
 use Rattle.hs_erule.proofs.Verdicts.{answers, decides}
 use Rattle.hs_erule.proofs.asking.answer.Goals as goal
+
+pub verdict-requires-clause-left_low : goal.verdict-requires-clause-left_low
+verdict-requires-clause-left_low c =
+    let same : Some c.deref.result.now ≡ c.in-Ok-Some.field-0 = search rules in
+    let low : SidesAreLow (Some c.deref.result.now) = subst SidesAreLow (sym same) c.in-Ok-Some.ensures.low in
+    low.0
+
+pub verdict-requires-clause-right_low : goal.verdict-requires-clause-right_low
+verdict-requires-clause-right_low c =
+    let same : Some c.deref.result.now ≡ c.in-Ok-Some.field-0 = search rules in
+    let low : SidesAreLow (Some c.deref.result.now) = subst SidesAreLow (sym same) c.in-Ok-Some.ensures.low in
+    low.1
 
 pub returns-in_ok-q-in-Ok-Some-clause-judged : goal.returns-in_ok-q-in-Ok-Some-clause-judged
 returns-in_ok-q-in-Ok-Some-clause-judged c =

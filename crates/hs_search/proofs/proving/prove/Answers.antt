@@ -14,16 +14,13 @@ returns c =
           (record {
             conditions = c.choices_have_conditions.ensures;
             well_formed = c.subgoals_are_well_formed.ensures;
-            no_bags = c.subgoals_have_no_bags.ensures;
             told = c.questions_are_told.ensures;
             joined = c.joined_proofs_are_proofs.ensures;
             shown = c.residue_is_shown.ensures;
           }) defs limits g
           (record {
             sound = c.requires.sound;
-            numbers = c.requires.numbers;
             limits_fit = c.requires.limits;
             fits = c.requires.fits;
-            goal_bags = c.requires.goal_bags;
           }) c.in_ok-answer.answer (rw c.in_ok-copy.ensures.same at c.in_ok-answer.ensures.answer));
     }

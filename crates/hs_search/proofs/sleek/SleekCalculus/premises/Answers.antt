@@ -9,7 +9,7 @@ returns-in-Err-NotApplicable-clause-err c =
 pub returns-in_ok-moved-in-Ok-None-clause-ok : goal.returns-in_ok-moved-in-Ok-None-clause-ok
 returns-in_ok-moved-in-Ok-None-clause-ok c =
     opened c.args.self.now.defs.now c.args.self.now.limits c.args.goal.now c.args.rule.now c.requires.choice c.choices_have_conditions.ensures
-    c.subgoals_are_well_formed.ensures c.subgoals_have_no_bags.ensures c.requires.goal c.in-Ok.goals c.in_ok-moved-in-Ok-None.field-0.items c.in-Ok.ensures.exact
+    c.subgoals_are_well_formed.ensures c.requires.goal c.in-Ok.goals c.in_ok-moved-in-Ok-None.field-0.items c.in-Ok.ensures.exact
     (rw c.in-Ok-None.field-0-is at c.in-Ok-None.ensures.reply) c.in_ok-moved-in-Ok-None.ensures
 
 pub returns-in-Err-clause-err : goal.returns-in-Err-clause-err
