@@ -5,8 +5,6 @@ ghost use Rattle.std.specs.List.{All};
 ghost use Rattle.hs_heap.specs.Sound.{IsSound};
 ghost use Rattle.hs_xpure.specs.Invariants.{InvariantsHold};
 ghost use Rattle.hs_goal.specs.Shape.{GoalFits};
-ghost use Rattle.hs_question.specs.Asked.{GoalHasNoBags};
-ghost use Rattle.hs_choices.specs.Laws.{AreOfNumbers};
 ghost use Rattle.hs_search.specs.Answer.{LimitsFit};
 ghost use Rattle.hs_entail_lines.specs.Lines as spec;
 ghost use Rattle.hs_entail_lines.specs.Lines.{goal_of, IsVerdict, IsEntailmentLine, AreEntailmentLines};
@@ -71,11 +69,9 @@ fn verdict(
     limits: &Limits,
 ) -> Result<Line, NoMemory>
     requires sound { IsSound defs.now }
-    requires numbers { AreOfNumbers defs.now }
     requires no_lemmas { defs.now.lemmas ≡ [] }
     requires invariants { InvariantsHold defs.now }
     requires fits { GoalFits defs.now (goal_of e.now) }
-    requires goal_bags { GoalHasNoBags (goal_of e.now) }
     requires limits { LimitsFit limits.now }
     ensures { IfOk result (IsVerdict defs.now limits.now number e.now) }
 {
@@ -102,11 +98,9 @@ fn entailment_line(
     limits: &Limits,
 ) -> Result<Line, NoMemory>
     requires sound { IsSound defs.now }
-    requires numbers { AreOfNumbers defs.now }
     requires no_lemmas { defs.now.lemmas ≡ [] }
     requires invariants { unshown.now ≡ None → InvariantsHold defs.now }
     requires fits { GoalFits defs.now (goal_of e.now) }
-    requires goal_bags { GoalHasNoBags (goal_of e.now) }
     requires limits { LimitsFit limits.now }
     ensures { IfOk result (IsEntailmentLine defs.now limits.now unshown.now number e.now) }
 {
@@ -116,10 +110,9 @@ fn entailment_line(
     }
 }
 
-/// A line for each entailment, in order, by numbers from 1. The definitions are sound, over numbers alone and without
-/// lemmas, and where there is no predicate whose invariant is `unshown`, all invariants hold. The goals of the
-/// entailments are well formed and have no bag literals, there are fewer than 2^32 - 1 of them, and the limits are in
-/// their ranges. `NoMemory` comes where there is none.
+/// A line for each entailment, in order, by numbers from 1. The definitions are sound and without lemmas, and where
+/// there is no predicate whose invariant is `unshown`, all invariants hold. The goals of the entailments are well formed,
+/// there are fewer than 2^32 - 1 of them, and the limits are in their ranges. `NoMemory` comes where there is none.
 pub fn entailment_lines(
     alloc: Global,
     defs: &Defs,
@@ -128,11 +121,9 @@ pub fn entailment_lines(
     limits: &Limits,
 ) -> Result<Vec<Line>, NoMemory>
     requires sound { IsSound defs.now }
-    requires numbers { AreOfNumbers defs.now }
     requires no_lemmas { defs.now.lemmas ≡ [] }
     requires invariants { unshown.now ≡ None → InvariantsHold defs.now }
     requires fits { All (λ e. GoalFits defs.now (goal_of e)) entailments.now }
-    requires goal_bags { All (λ e. GoalHasNoBags (goal_of e)) entailments.now }
     requires few { length entailments.now < 2 ^ 32 - 1 }
     requires limits { LimitsFit limits.now }
     // What each line says is true.

@@ -5,7 +5,6 @@ ghost use Rattle.std.specs.Option.{option_copied};
 ghost use Rattle.hs_heap.specs.Meaning.{pred_at};
 ghost use Rattle.hs_heap.specs.Sound.{IsSound};
 ghost use Rattle.hs_xpure.specs.Invariants.{InvariantsHold};
-ghost use Rattle.hs_xpure.specs.Laws.{HasNoBags};
 ghost use Rattle.hs_pred_lines.specs.Lines as spec;
 ghost use Rattle.hs_pred_lines.specs.Lines.{names_at, IsTold, IsPredicateLine, ArePredicateLines, first_unshown};
 
@@ -29,7 +28,6 @@ fn line_told(
     atoms: u64,
 ) -> Result<Line, NoMemory>
     requires sound { IsSound defs.now }
-    requires no_bags { HasNoBags defs.now }
     requires there { pred_at defs.now number ≡ Some pred.now }
     requires small { atoms ≤ 2 ^ 30 }
     ensures { IfOk result (IsTold defs.now pred.now names.now atoms) }
@@ -65,7 +63,6 @@ fn predicate_line(
     atoms: u64,
 ) -> Result<Line, NoMemory>
     requires sound { IsSound resolved.now.defs }
-    requires no_bags { HasNoBags resolved.now.defs }
     requires there { pred_at resolved.now.defs number ≡ Some pred.now }
     requires named { length resolved.now.pred_names ≡ length resolved.now.defs.preds }
     requires small { atoms ≤ 2 ^ 30 }
@@ -80,7 +77,6 @@ fn predicate_line(
 // A line for each predicate, in order.
 fn told_lines(alloc: Global, resolved: &Resolved, atoms: u64) -> Result<Vec<Line>, NoMemory>
     requires sound { IsSound resolved.now.defs }
-    requires no_bags { HasNoBags resolved.now.defs }
     requires named { length resolved.now.pred_names ≡ length resolved.now.defs.preds }
     requires few { length resolved.now.defs.preds < 2 ^ 32 - 1 }
     requires small { atoms ≤ 2 ^ 30 }
@@ -117,16 +113,15 @@ fn first_of(alloc: Global, lines: &[Line]) -> Result<Option<Text>, NoMemory>
     Ok(None)
 }
 
-/// A line for each predicate, in order, and the name of the first that is not shown. The definitions are sound and
-/// have no bag literal, each predicate has its source names, there are fewer than 2^32 - 1, and `atoms` is at most
-/// 2^30: it bounds the atoms of a stage of a plain decision. `NoMemory` comes where there is none.
+/// A line for each predicate, in order, and the name of the first that is not shown. The definitions are sound, each
+/// predicate has its source names, there are fewer than 2^32 - 1, and `atoms` is at most 2^30: it bounds the atoms of a
+/// stage of a plain decision. `NoMemory` comes where there is none.
 pub fn predicate_lines(
     alloc: Global,
     resolved: &Resolved,
     atoms: u64,
 ) -> Result<(Vec<Line>, Option<Text>), NoMemory>
     requires sound { IsSound resolved.now.defs }
-    requires no_bags { HasNoBags resolved.now.defs }
     requires named { length resolved.now.pred_names ≡ length resolved.now.defs.preds }
     requires few { length resolved.now.defs.preds < 2 ^ 32 - 1 }
     requires small { atoms ≤ 2 ^ 30 }

@@ -1,10 +1,8 @@
 -- What the lines of a source that is served need.
-use Rattle.std.proofs.Common.{◌≡◌, ℕ, suc, ◌+◌, ◌≤◌, ◌^◌, true, false, List, [], ◌∷◌, ◌++◌, length, refl, sym, ap, subst, arith}
+use Rattle.std.proofs.Common.{◌≡◌, ℕ, suc, ◌+◌, ◌≤◌, ◌^◌, Bool, true, false, ◌&&◌, List, [], ◌∷◌, ◌++◌, length, refl, sym, ap, subst, arith}
 use Rattle.std.specs.List.{All}
-use Rattle.std.proofs.lemmas.List.Elements.{All-nil}
 use Rattle.hs_heap.specs.declared.definitions.Lemma.{Lemma}
 use Rattle.hs_heap.specs.declared.definitions.PredDef.{PredDef}
-use Rattle.hs_pure.specs.Occurs.{has_bags}
 use Rattle.hs_cli.specs.declared.jobs.Options.{Options}
 use Rattle.hs_cli.specs.Job.{AreInRange}
 use Rattle.hs_norm.specs.declared.resolved.Resolved.{Resolved}
@@ -12,10 +10,8 @@ use Rattle.hs_norm_sound.specs.Laws.{DefinitionsAreSound, GoalsAreWellFormed, Go
 use Rattle.hs_tree.specs.declared.source.Source.{Source}
 use Rattle.hs_source.specs.Resolved.{IsResolved}
 use Rattle.hs_print.specs.declared.line.Line.{Line}
-use Rattle.hs_choices.specs.Laws.{AreOfNumbers}
 use Rattle.hs_search.specs.Answer.{LimitsFit}
-use Rattle.hs_served.specs.Served.{is_served}
-use Rattle.hs_served.specs.Laws.{ServedSourcesHaveNoBags}
+use Rattle.hs_tool.specs.Served.{is_nil, is_served}
 use Rattle.hs_pred_lines.specs.Lines.{AreLines, ArePredicateLines, first_unshown}
 use Rattle.hs_entail_lines.specs.Laws.{EntailmentsAreGoals}
 use Rattle.hs_entail_lines.specs.Lines.{AreEntailmentLines}
@@ -28,14 +24,17 @@ lines_many Is number [] (l ∷ ls) h = absurd h
 lines_many Is number (p ∷ ps) [] h = absurd h
 lines_many Is number (p ∷ ps) (l ∷ ls) h = ap suc (lines_many Is (number + 1) ps ls h.1)
 
-pub of_numbers : ServedSourcesHaveNoBags → (r : Resolved) → is_served r ≡ true → AreOfNumbers r.defs
-of_numbers served r e =
-    let has = served r e in
-    record {
-      preds = has.0;
-      lemmas = subst (All (λ (l : Lemma). All (λ p. has_bags p ≡ false) l.right.pure)) (sym has.2) (All-nil (λ (l : Lemma). All (λ p. has_bags p ≡ false) l.right.pure));
-      params = has.1;
-    }
+nil_is : {A : Type 0} (xs : List A) → is_nil xs ≡ true → xs ≡ []
+nil_is [] e = refl
+nil_is (x ∷ xs) e = absurd cc
+
+second : (a b : Bool) → (a && b) ≡ true → b ≡ true
+second true b e = e
+second false b e = absurd cc
+
+-- a source that is served has no lemmas
+pub without_lemmas : (r : Resolved) → is_served r ≡ true → r.defs.lemmas ≡ []
+without_lemmas r e = nil_is r.defs.lemmas (second (is_nil r.methods) (is_nil r.defs.lemmas) e)
 
 pub limits_fit : (options : Options) → AreInRange options → LimitsFit (limits_of options)
 limits_fit options range = record {

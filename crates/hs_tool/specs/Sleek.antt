@@ -8,13 +8,13 @@ use Rattle.hs_goal.specs.Shape.{GoalFits}
 use Rattle.hs_cli.specs.declared.jobs.Options.{Options}
 use Rattle.hs_norm.specs.declared.resolved.Resolved.{Resolved}
 use Rattle.hs_founding.specs.Fault.{HasFoundingFault}
-use Rattle.hs_served.specs.Served.{is_served}
 use Rattle.hs_print.specs.declared.line.Line.{Line}
 use Rattle.hs_print.specs.declared.line.Line.TheVariants as line
 use Rattle.hs_pred_lines.specs.Lines.{ArePredicateLines, first_unshown}
 use Rattle.hs_entail_lines.specs.Lines.{goal_of, AreEntailmentLines}
 use Rattle.hs_tool.specs.declared.reply.Reply.{Reply}
 use Rattle.hs_tool.specs.Reply.{IsFormReply}
+use Rattle.hs_tool.specs.Served.{is_served}
 
 -- the limits of a search
 abbrev pub limits_of : Options → Limits

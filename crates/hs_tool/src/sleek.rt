@@ -3,9 +3,9 @@
 ghost use Rattle.std.specs.Prelude.{◌≡◌, ◌≤◌, ◌^◌, ◌++◌, ◌∷◌, [], length, IfOk, true};
 ghost use Rattle.hs_cli.specs.Job.{AreInRange};
 ghost use Rattle.hs_founding.specs.Fault.{HasFoundingFault};
-ghost use Rattle.hs_served.specs.Served.{is_served};
 ghost use Rattle.hs_tool.specs.Reply.{IsFaultless, IsSourceReply};
 ghost use Rattle.hs_tool.specs.Run.{source_limit};
+ghost use Rattle.hs_tool.specs.Served.{is_served};
 ghost use Rattle.hs_tool.specs.Sleek as spec;
 ghost use Rattle.hs_tool.specs.Sleek.{IsNormalForm, IsSleekReport, IsSleekReply};
 
@@ -19,7 +19,6 @@ use hs_norm_sound::{definitions_are_sound, goals_are_well_formed, goals_have_dis
 use hs_pred_lines::predicate_lines;
 use hs_print::{Line, Refusal};
 use hs_pure::NoMemory;
-use hs_served::{is_served, served_sources_have_no_bags};
 use hs_source::{SourceError, resolve};
 use sqlite_items::Items;
 use std::alloc::Global;
@@ -71,6 +70,13 @@ fn report(mut preds: Vec<Line>, mut entailments: Vec<Line>) -> Result<Items<Line
     Ok(Items::from_vec(preds))
 }
 
+// Whether a source in normal form has neither methods nor lemmas.
+fn is_served(resolved: &Resolved) -> bool
+    ensures { result ≡ is_served resolved.now }
+{
+    resolved.methods.is_empty() && resolved.defs.lemmas.is_empty()
+}
+
 // The lines on a source that is served.
 fn sleek(alloc: Global, resolved: &Resolved, options: Options) -> Result<Items<Line>, NoMemory>
     requires normal { IsNormalForm resolved.now }
@@ -78,7 +84,6 @@ fn sleek(alloc: Global, resolved: &Resolved, options: Options) -> Result<Items<L
     requires range { AreInRange options }
     ensures { IfOk result (IsSleekReport options resolved.now) }
 {
-    served_sources_have_no_bags();
     let (preds, unshown) = predicate_lines(alloc, resolved, options.atoms)?;
     let entailments = entailment_lines(
         alloc,

@@ -1,13 +1,6 @@
-use Rattle.std.proofs.Common.{sym, subst}
-use Rattle.hs_norm_item.specs.declared.forms.Entailment.{Entailment}
-use Rattle.hs_question.specs.Asked.{GoalHasNoBags}
-use Rattle.hs_entail_lines.specs.Lines.{goal_of, IsEntailmentLine}
+use Rattle.hs_entail_lines.specs.Lines.{IsEntailmentLine}
 use Rattle.hs_entail_lines.proofs.Told.{telling_push}
 use Rattle.hs_entail_lines.proofs.lines.entailment_lines.Goals as goal
-
-pub entailment_line-requires-clause-goal_bags : goal.entailment_line-requires-clause-goal_bags
-entailment_line-requires-clause-goal_bags c =
-    subst (λ (e : Entailment). GoalHasNoBags (goal_of e)) (sym c.e-item.is) (c.requires.goal_bags c.loop-e.e-index c.e-item.result c.loop-e-test.true)
 
 pub loop-e-preserved : goal.loop-e-preserved
 loop-e-preserved c =
