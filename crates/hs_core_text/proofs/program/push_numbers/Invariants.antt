@@ -1,0 +1,10 @@
+use Rattle.std.proofs.Common.{◌≡◌, ◌++◌, drop, decimal}
+use Rattle.std.specs.Prelude.{codes}
+use Rattle.std.specs.String.{string_bytes}
+use Rattle.hs_print.specs.Lists.{each_after}
+use Rattle.hs_core_text.proofs.program.push_numbers.Given as goal
+
+abbrev pub invariant-loop-number : goal.invariant-loop-number
+invariant-loop-number l =
+    string_bytes l.out ++ each_after (codes " ") decimal (drop l.number-index l.numbers)
+    ≡ string_bytes l.initial.out ++ each_after (codes " ") decimal l.numbers
