@@ -1,15 +1,14 @@
 //! Answers and their texts.
-ghost use Rattle.std.specs.Prelude.{◌≡◌, ◌≤◌, ◌^◌, false, IsTrue};
+ghost use Rattle.std.specs.Prelude.{◌≤◌, ◌^◌, IsTrue};
 ghost use Rattle.hs_pure.specs.Assertion.{assertion_of};
-ghost use Rattle.hs_pure.specs.Occurs.{has_bags};
 ghost use Rattle.hs_pure.specs.Sums.{IsOrdered};
 ghost use Rattle.hs_elimination.specs.Normal.{is_simple};
 
-use crate::formulas::NoRow;
 use hs_cooper::{Stop, eliminate, substitute, witness};
 use hs_decide::{Answer, implies, unsat};
 use hs_print::numbered_pure;
 use hs_pure::{Lin, Pure, Valuation, Var};
+use hs_tests_formulas::{NoRow, is_decidable};
 use sqlite_items::Items;
 use std::alloc::Global;
 
@@ -28,21 +27,56 @@ pub const Z: Var = Var {
     bag: false,
 };
 
-fn push_values(out: &mut String, v: &Valuation) -> Result<(), NoRow> {
+fn push_element(out: &mut String, element: (i128, i128)) -> Result<(), NoRow> {
+    let (value, count) = element;
+    write!(out, "{value}:{count}")?;
+    Ok(())
+}
+
+fn push_elements(out: &mut String, elements: &[(i128, i128)]) -> Result<(), NoRow> {
+    let Some((first, later)) = elements.split_first() else {
+        return Ok(());
+    };
+    push_element(out, *first)?;
+    for element in later {
+        write!(out, ", ")?;
+        push_element(out, *element)?;
+    }
+    Ok(())
+}
+
+// The values of the variables that are free in a side.
+fn push_values(out: &mut String, left: &Pure, right: &Pure, v: &Valuation) -> Result<(), NoRow> {
     for (x, value) in v.numbers.as_slice() {
-        let number = x.number;
-        write!(out, " v{number}={value}")?;
+        if left.has(*x) || right.has(*x) {
+            let number = x.number;
+            write!(out, " v{number}={value}")?;
+        }
+    }
+    for (x, elements) in v.bags.as_slice() {
+        if left.has(*x) || right.has(*x) {
+            let number = x.number;
+            write!(out, " V{number}={{")?;
+            push_elements(out, elements.as_slice())?;
+            write!(out, "}}")?;
+        }
     }
     Ok(())
 }
 
 // The copy of an answer.
-fn push_answer(alloc: Global, out: &mut String, answer: &Answer) -> Result<(), NoRow> {
+fn push_answer(
+    alloc: Global,
+    out: &mut String,
+    left: &Pure,
+    right: &Pure,
+    answer: &Answer,
+) -> Result<(), NoRow> {
     match answer.copy(alloc)? {
         Answer::Yes => write!(out, "yes")?,
         Answer::No(v) => {
             write!(out, "no at")?;
-            push_values(out, &v)?;
+            push_values(out, left, right, &v)?;
         }
         Answer::Atoms => write!(out, "atoms")?,
         Answer::Wide => write!(out, "wide")?,
@@ -59,6 +93,16 @@ fn push_stop(out: &mut String, stop: Stop) -> Result<(), NoRow> {
     Ok(())
 }
 
+/// The answer, where the question may be asked.
+pub fn answered(alloc: Global, left: &Pure, right: &Pure, atoms: u64) -> Result<Box<Answer>, NoRow>
+    requires small { atoms ≤ 2 ^ 30 }
+{
+    if !is_decidable(left) || !is_decidable(right) {
+        return Err(NoRow);
+    }
+    Ok(Box::new(alloc, implies(alloc, left, right, atoms)?)?)
+}
+
 pub fn push_implies(
     alloc: Global,
     out: &mut String,
@@ -66,21 +110,19 @@ pub fn push_implies(
     right: &Pure,
     atoms: u64,
 ) -> Result<(), NoRow>
-    requires left_bags { has_bags left.now ≡ false }
-    requires left_ordered { IsOrdered left.now }
-    requires right_bags { has_bags right.now ≡ false }
-    requires right_ordered { IsOrdered right.now }
     requires small { atoms ≤ 2 ^ 30 }
 {
-    push_answer(alloc, out, &implies(alloc, left, right, atoms)?)
+    let answer = answered(alloc, left, right, atoms)?;
+    push_answer(alloc, out, left, right, &answer)
 }
 
 pub fn push_unsat(alloc: Global, out: &mut String, f: &Pure, atoms: u64) -> Result<(), NoRow>
-    requires no_bags { has_bags f.now ≡ false }
-    requires ordered { IsOrdered f.now }
     requires small { atoms ≤ 2 ^ 30 }
 {
-    push_answer(alloc, out, &unsat(alloc, f, atoms)?)
+    if !is_decidable(f) {
+        return Err(NoRow);
+    }
+    push_answer(alloc, out, f, f, &unsat(alloc, f, atoms)?)
 }
 
 pub fn push_rest(alloc: Global, out: &mut String, f: &Pure, atoms: u64) -> Result<(), NoRow>

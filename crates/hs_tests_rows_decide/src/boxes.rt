@@ -6,9 +6,9 @@ ghost use Rattle.hs_pure.specs.Sums.{IsOrdered};
 ghost use Rattle.hs_elimination.specs.Normal.{is_simple};
 
 use crate::answers::{X, Y, Z};
-use crate::formulas::NoRow;
 use hs_cooper::{eliminate, witness};
 use hs_pure::{Pure, Valuation, Var};
+use hs_tests_formulas::NoRow;
 use sqlite_items::Items;
 use std::alloc::Global;
 
@@ -47,9 +47,10 @@ fn value_is_right(alloc: Global, f: &Pure, y: i128, z: i128, works: bool) -> Res
     requires flat { has_quantifiers f.now ≡ false }
     requires ordered { IsOrdered f.now }
 {
-    match witness(alloc, X, f, &values(alloc, &[(Y, y), (Z, z)])?, BUDGET)? {
-        Some(x) => is_true(alloc, f, &[(X, x), (Y, y), (Z, z)]),
-        None => Ok(!works),
+    match witness(alloc, X, f, &values(alloc, &[(Y, y), (Z, z)])?, BUDGET) {
+        Ok(Some(x)) => is_true(alloc, f, &[(X, x), (Y, y), (Z, z)]),
+        Ok(None) => Ok(!works),
+        Err(_) => Err(NoRow),
     }
 }
 
@@ -66,13 +67,16 @@ fn is_right_at(alloc: Global, f: &Pure, rest: &Pure, y: i128, z: i128) -> Result
 }
 
 // What is left where x is eliminated.
-#[tactic(auto, using(crate::proofs::Given::flat_result))]
+#[tactic(auto, using(crate::proofs::Flat::flat_result))]
 fn without_x(alloc: Global, f: &Pure) -> Result<Pure, NoRow>
     requires simple { IsTrue (is_simple (assertion_of f.now)) }
     requires ordered { IsOrdered f.now }
     ensures { IfOk result (λ p. has_quantifiers p ≡ false) }
 {
-    Ok(eliminate(alloc, X, f, BUDGET)?)
+    match eliminate(alloc, X, f, BUDGET) {
+        Ok(rest) => Ok(rest),
+        Err(_) => Err(NoRow),
+    }
 }
 
 /// Whether elimination and values agree with the search at each place of the box.

@@ -1,20 +1,14 @@
 //! Rows and their answers.
 ghost use Rattle.std.specs.Prelude.{◌≤◌, ◌^◌, IfOk};
 
-use crate::answers::{push_implies, push_rest, push_substituted, push_unsat, push_value};
+use crate::answers::{X, push_implies, push_rest, push_substituted, push_unsat, push_value};
+use crate::bags::{push_searched, push_told};
 use crate::boxes::agrees;
-use crate::formulas::{NoRow, quantified, simple, with_divisor_0};
-use hs_pure::Pure;
+use hs_pure::{Lin, Pure};
+use hs_tests_formulas::{NoRow, case, conjunction, cut, formula, is_simple, number};
+use sqlite_items::Items;
 use std::alloc::Global;
 use std::str;
-
-// The first word of a text, and what follows the blank behind it.
-fn word(text: &str) -> Result<(&str, &str), NoRow> {
-    match text.split_once(" ") {
-        Some(parts) => Ok(parts),
-        None => Err(NoRow),
-    }
-}
 
 // The most atoms of a row.
 fn atoms(text: &str) -> Result<u64, NoRow>
@@ -26,37 +20,64 @@ fn atoms(text: &str) -> Result<u64, NoRow>
     }
 }
 
+// What an implication is asked of.
+#[derive(Drop)]
+struct Question {
+    atoms: u64,
+    left: Box<Pure>,
+    right: Box<Pure>,
+}
+
+fn asked(alloc: Global, row: &str) -> Result<Question, NoRow>
+    ensures { IfOk result (λ q. q.atoms ≤ 2 ^ 30) }
+{
+    let (budget, sides) = cut(row, " ")?;
+    let (left, right) = cut(sides, " |- ")?;
+    Ok(Question {
+        atoms: atoms(budget)?,
+        left: formula(alloc, left)?,
+        right: formula(alloc, right)?,
+    })
+}
+
 fn push_question(alloc: Global, out: &mut String, row: &str) -> Result<(), NoRow> {
-    let (budget, question) = word(row)?;
-    let Some((left, right)) = question.split_once(" |- ") else {
-        return Err(NoRow);
-    };
-    let atoms = atoms(budget)?;
-    let left = Box::new(alloc, quantified(alloc, left)?)?;
-    let right = Box::new(alloc, quantified(alloc, right)?)?;
-    push_implies(alloc, out, &left, &right, atoms)
+    let q = asked(alloc, row)?;
+    push_implies(alloc, out, &q.left, &q.right, q.atoms)
+}
+
+fn push_untold(alloc: Global, out: &mut String, row: &str) -> Result<(), NoRow> {
+    let q = asked(alloc, row)?;
+    push_told(alloc, out, &q.left, &q.right, q.atoms)
+}
+
+fn push_bags(alloc: Global, out: &mut String, row: &str) -> Result<(), NoRow> {
+    let q = asked(alloc, row)?;
+    push_searched(alloc, out, &q.left, &q.right, q.atoms)
 }
 
 fn push_truth(alloc: Global, out: &mut String, row: &str) -> Result<(), NoRow> {
-    let (budget, f) = word(row)?;
+    let (budget, f) = cut(row, " ")?;
     let atoms = atoms(budget)?;
-    let f = Box::new(alloc, quantified(alloc, f)?)?;
-    push_unsat(alloc, out, &f, atoms)
+    push_unsat(alloc, out, &*formula(alloc, f)?, atoms)
 }
 
 fn push_elimination(alloc: Global, out: &mut String, row: &str) -> Result<(), NoRow> {
-    let (budget, f) = word(row)?;
+    let (budget, f) = cut(row, " ")?;
     let atoms = atoms(budget)?;
-    let f = Box::new(alloc, simple(alloc, f)?)?;
+    let f = formula(alloc, f)?;
+    if !is_simple(&f) {
+        return Err(NoRow);
+    }
     push_rest(alloc, out, &f, atoms)
 }
 
 fn push_substitution(alloc: Global, out: &mut String, row: &str) -> Result<(), NoRow> {
-    let Some((equation, f)) = row.split_once(" in ") else {
+    let (equation, f) = cut(row, " in ")?;
+    let equation = formula(alloc, equation)?;
+    let f = formula(alloc, f)?;
+    if !is_simple(&f) {
         return Err(NoRow);
-    };
-    let equation = Box::new(alloc, simple(alloc, equation)?)?;
-    let f = Box::new(alloc, simple(alloc, f)?)?;
+    }
     match &*equation {
         Pure::Eq(_, term) => push_substituted(alloc, out, &f, term),
         _ => Err(NoRow),
@@ -64,14 +85,14 @@ fn push_substitution(alloc: Global, out: &mut String, row: &str) -> Result<(), N
 }
 
 fn push_witness(alloc: Global, out: &mut String, row: &str) -> Result<(), NoRow> {
-    let (budget, rest) = word(row)?;
-    let (y, f) = word(rest)?;
-    let Ok(y) = y.parse::<i128>() else {
-        return Err(NoRow);
-    };
+    let (budget, rest) = cut(row, " ")?;
+    let (y, f) = cut(rest, " ")?;
     let atoms = atoms(budget)?;
-    let f = Box::new(alloc, simple(alloc, f)?)?;
-    push_value(alloc, out, &f, y, atoms)
+    let f = formula(alloc, f)?;
+    if !is_simple(&f) {
+        return Err(NoRow);
+    }
+    push_value(alloc, out, &f, number(y)?, atoms)
 }
 
 fn push_agreement(out: &mut String, agrees: bool) -> Result<(), NoRow> {
@@ -83,20 +104,43 @@ fn push_agreement(out: &mut String, agrees: bool) -> Result<(), NoRow> {
     Ok(())
 }
 
+fn push_box_of(alloc: Global, out: &mut String, f: &Pure) -> Result<(), NoRow> {
+    if is_simple(f) {
+        push_agreement(out, agrees(alloc, f)?)
+    } else {
+        Err(NoRow)
+    }
+}
+
 fn push_box(alloc: Global, out: &mut String, row: &str) -> Result<(), NoRow> {
-    let f = Box::new(alloc, simple(alloc, row)?)?;
-    push_agreement(out, agrees(alloc, &f)?)
+    push_box_of(alloc, out, &*formula(alloc, row)?)
+}
+
+// `divides(0, v1)`, which no text spells
+fn divides_0(alloc: Global) -> Result<Pure, NoRow> {
+    Ok(Pure::Divides(
+        0,
+        Lin {
+            terms: Items::from_slice(alloc, &[(X, 1)])?,
+            constant: 0,
+        },
+    ))
 }
 
 fn push_box_or_0(alloc: Global, out: &mut String, row: &str) -> Result<(), NoRow> {
-    let f = Box::new(alloc, with_divisor_0(alloc, row)?)?;
-    push_agreement(out, agrees(alloc, &f)?)
+    let mut members = Items::new(alloc);
+    members.push(divides_0(alloc)?)?;
+    members.push(conjunction(case(alloc, row)?.pure))?;
+    let f = Box::new(alloc, Pure::Or(members))?;
+    push_box_of(alloc, out, &f)
 }
 
 fn push_row(alloc: Global, out: &mut String, row: &str) -> Result<(), NoRow> {
-    let (call, rest) = word(row)?;
+    let (call, rest) = cut(row, " ")?;
     match call {
         "implies" => push_question(alloc, out, rest),
+        "told" => push_untold(alloc, out, rest),
+        "bags" => push_bags(alloc, out, rest),
         "unsat" => push_truth(alloc, out, rest),
         "eliminate" => push_elimination(alloc, out, rest),
         "substitute" => push_substitution(alloc, out, rest),
@@ -104,6 +148,17 @@ fn push_row(alloc: Global, out: &mut String, row: &str) -> Result<(), NoRow> {
         "box" => push_box(alloc, out, rest),
         "box0" => push_box_or_0(alloc, out, rest),
         _ => Err(NoRow),
+    }
+}
+
+// A row that is none says so.
+fn push_answer(alloc: Global, out: &mut String, row: &str) -> Result<(), NoRow> {
+    match push_row(alloc, out, row) {
+        Ok(()) => Ok(()),
+        Err(NoRow) => {
+            write!(out, "no row")?;
+            Ok(())
+        }
     }
 }
 
@@ -117,7 +172,7 @@ pub fn table(alloc: Global, bytes: &[u8]) -> Result<String, NoRow> {
         write!(out, "{row}\n")?;
         if !row.starts_with("//") {
             write!(out, "  ")?;
-            push_row(alloc, &mut out, row)?;
+            push_answer(alloc, &mut out, row)?;
             write!(out, "\n")?;
         }
         write!(out, "\n")?;
