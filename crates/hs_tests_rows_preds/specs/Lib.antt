@@ -1,2 +1,1 @@
-pub mod NoBags
 pub mod Renaming

@@ -3,7 +3,7 @@ ghost use Rattle.std.specs.Prelude.{◌≡◌, ◌<◌, ◌≤◌, ◌-◌, ◌^
 ghost use Rattle.hs_heap.specs.Instance.{lemma_at};
 ghost use Rattle.hs_heap.specs.Sound.{IsSound};
 ghost use Rattle.hs_xpure.specs.Invariants.{pred_atom};
-ghost use Rattle.hs_xpure.specs.Laws.{AtomsFit, HasNoBags};
+ghost use Rattle.hs_xpure.specs.Laws.{AtomsFit};
 
 use crate::given::NoRow;
 use hs_heap::{Atom, Defs, Lemma, Of, instantiate, instantiate_inv, instantiate_lemma};
@@ -214,7 +214,6 @@ fn push_instantiated_at(
 /// The lines of predicates in a report.
 pub fn push_lines(alloc: Global, out: &mut String, r: &Resolved, atoms: u64) -> Result<(), NoRow>
     requires sound { IsSound r.now.defs }
-    requires no_bags { HasNoBags r.now.defs }
     requires named { length r.now.pred_names ≡ length r.now.defs.preds }
     requires few { length r.now.defs.preds < 2 ^ 32 - 1 }
     requires small { atoms ≤ 2 ^ 30 }

@@ -15,7 +15,6 @@
 //! Formulas, atoms and answers are written by numbers; the last part of an answer is the next unused number.
 #![tactic(auto)]
 
-mod bags;
 mod calls;
 mod given;
 mod heaps;

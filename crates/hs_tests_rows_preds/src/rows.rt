@@ -2,7 +2,6 @@
 ghost use Rattle.std.specs.Prelude.{◌≤◌, ◌^◌, IfOk};
 ghost use Rattle.hs_heap.specs.Sound.{IsSound};
 
-use crate::bags::have_none;
 use crate::calls::{
     push_body, push_founded, push_instantiated, push_invariant, push_lemma, push_lines, push_xpure,
 };
@@ -167,7 +166,7 @@ fn push_line_row(alloc: Global, out: &mut String, r: &Resolved, row: &str) -> Re
 {
     let atoms = most(row)?;
     let preds = r.defs.preds.len();
-    if preds > 1000 || r.pred_names.len() != preds || !have_none(&r.defs) {
+    if preds > 1000 || r.pred_names.len() != preds {
         return Err(NoRow);
     }
     push_lines(alloc, out, r, atoms)

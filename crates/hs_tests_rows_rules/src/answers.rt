@@ -6,7 +6,6 @@ ghost use Rattle.hs_rules.specs.Subgoals.{subgoals_of};
 ghost use Rattle.hs_rules.specs.Rules.{Applies};
 ghost use Rattle.hs_question.specs.Steps.{HasResidue};
 
-use crate::bags::{goal_has_none, have_none};
 use crate::given::NoRow;
 use hs_erule::{NodeAnswer, Reason, RuleError, question, residue, right, subgoals};
 use hs_goal::{ERule, Goal, Question, classes};
@@ -228,7 +227,7 @@ fn verdict_word(answer: NodeAnswer) -> &'static str {
     }
 }
 
-/// Whether a step without bag literals is right.
+/// Whether a step is right.
 pub fn push_verdict(
     alloc: Global,
     out: &mut String,
@@ -239,7 +238,7 @@ pub fn push_verdict(
     premises: &[(Goal, Formula)],
     atoms: u64,
 ) -> Result<(), NoRow> {
-    if atoms > MOST_ATOMS || !defs.sound() || !have_none(defs) || !goal_has_none(goal) {
+    if atoms > MOST_ATOMS || !defs.sound() {
         return Err(NoRow);
     }
     let answer = right(alloc, defs, goal, residue, rule, premises, atoms)?;

@@ -16,7 +16,6 @@
 #![tactic(auto)]
 
 mod answers;
-mod bags;
 mod given;
 mod reading;
 mod rows;
