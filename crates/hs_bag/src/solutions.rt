@@ -11,8 +11,8 @@ use hs_counts::{RebuildError, Reduced, rebuild_bags};
 use hs_pure::{Pure, Valuation};
 use std::alloc::Global;
 
-/// Values that make `f` true, from values that make its reduction true. `Wide` comes only where a number that is met
-/// when an element is evaluated passes 128 bits.
+/// Values that make `f` true, from values that make its reduction true. `Wide` comes only where the value of an element
+/// passes 128 bits.
 pub fn rebuild(
     alloc: Global,
     f: &Pure,

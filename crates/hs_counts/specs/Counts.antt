@@ -1,12 +1,13 @@
 -- The bags that a list of counts says.
-use Rattle.std.specs.Prelude.{◌≡◌, ℕ, zero, suc, ℤ, pos, ◌<ℤ◌, ◌≤ℤ◌, List, [], ◌∷◌, ◌++◌, if◌then◌else◌}
+use Rattle.std.specs.Prelude.{◌≡◌, ℕ, zero, suc, ℤ, pos, ◌<ℤ◌, ◌≤ℤ◌, List, [], ◌∷◌, ◌++◌, if◌then◌else◌, FitsSigned}
+use mir.Syntax.{w128}
 use Rattle.std.specs.List.{All, Any}
 use Rattle.hs_pure.specs.declared.var.Var.{Var}
 use Rattle.hs_pure.specs.declared.valuation.Valuation.{Valuation}
 use Rattle.hs_pure.specs.Multiset.{Multiset, nothing, set_count}
 use Rattle.hs_pure.specs.Stack.{Stack, same}
 use Rattle.hs_pure.specs.Truth.{value}
-use Rattle.hs_pure.specs.Eval.{natural, SumFits}
+use Rattle.hs_pure.specs.Eval.{natural}
 use Rattle.hs_reduction.specs.Layout.{number_variable, name_place, Layout, width, element, count_number}
 use Rattle.hs_counts.specs.declared.count.Count.{Count}
 
@@ -24,9 +25,9 @@ module _ (t : Stack) where
   abbrev pub ItemsAreRight : List Count → Type 0
   ItemsAreRight cs = All (λ c. (pos 0 ≤ℤ (t c.count).number) × All (λ d. c.of ≡ d.of → value t c.element ≡ value t d.element → (t c.count).number ≡ (t d.count).number) cs) cs
 
-  -- a number that is met when an element is evaluated has more than 128 bits
+  -- the value of an element has more than 128 bits
   abbrev pub HasWideElement : List Count → Type 0
-  HasWideElement cs = Any (λ c. ¬ (SumFits t c.element)) cs
+  HasWideElement cs = Any (λ c. ¬ (FitsSigned w128 (value t c.element))) cs
 
 -- ---- the counts of a reduction
 

@@ -1,24 +1,27 @@
 //! The valuation with the bags that counts say.
 
-ghost use Rattle.std.specs.Prelude.{◌≡◌, true, [], ◌∷◌, IfOk, OnOk, IsErrOf};
+ghost use Rattle.std.specs.Prelude.{◌≡◌, true, [], ◌∷◌, IfOk, OnOk, IsErrOf, FitsSigned};
+ghost use mir.Syntax.{w128};
 ghost use Rattle.hs_pure.specs.declared.var.Var.{Var};
 ghost use Rattle.hs_pure.specs.Multiset.{nothing};
-ghost use Rattle.hs_pure.specs.Eval.{stack_of, multiset_of, SumFits};
+ghost use Rattle.hs_pure.specs.Eval.{stack_of, multiset_of};
+ghost use Rattle.hs_pure.specs.Truth.{value};
 ghost use Rattle.hs_counts.specs.Counts.{bag_with, stack_with_counts, HasWideElement, Rises, BagsRise};
 ghost use Rattle.hs_counts.specs.Listed.{is_listed, AreSaid};
 ghost use Rattle.hs_counts.specs.declared.rebuild.RebuildError.TheVariants as rebuild_error;
 
 use crate::Count;
 use crate::elements::set_count;
-use crate::value::{number, value};
-use hs_pure::{NoMemory, Valuation, Var, Wide};
+use crate::value::number;
+use hs_exact_sum::exact_value;
+use hs_pure::{NoMemory, Valuation, Var};
 use sqlite_items::Items;
 use std::alloc::{AllocError, Global};
 
 /// Why no bags are rebuilt.
 #[derive(Clone, Copy, Debug, PartialEq, Eq)]
 pub enum RebuildError {
-    /// A number that is met when an element is evaluated has more than 128 bits.
+    /// The value of an element has more than 128 bits.
     Wide,
     /// There was no memory.
     Memory,
@@ -40,14 +43,6 @@ impl From<AllocError> for RebuildError {
     }
 }
 
-impl From<Wide> for RebuildError {
-    ghost from_gives = { λ _ e. e ≡ rebuild_error.Wide };
-
-    fn from(_: Wide) -> RebuildError {
-        RebuildError::Wide
-    }
-}
-
 // Sets the count in the elements of the bag variable `u`, if it is one of `u`.
 fn add_count(
     elements: &mut Vec<(i128, i128)>,
@@ -58,12 +53,14 @@ fn add_count(
     requires rises { Rises elements.old.items }
     ensures rise { OnOk result (Rises elements.new.items) }
     ensures same { OnOk result (multiset_of elements.new.items ≡ bag_with (stack_of v.now) (c.now ∷ []) u (multiset_of elements.old.items)) }
-    ensures wide { IsErrOf result rebuild_error.Wide → ¬ (SumFits (stack_of v.now) c.now.element) }
+    ensures wide { IsErrOf result rebuild_error.Wide → ¬ (FitsSigned w128 (value (stack_of v.now) c.now.element)) }
 {
     if c.of != u {
         return Ok(());
     }
-    let x = value(&c.element, v)?;
+    let Some(x) = exact_value(&c.element, v) else {
+        return Err(RebuildError::Wide);
+    };
     set_count(elements, x, number(v, c.count))?;
     Ok(())
 }
@@ -115,8 +112,7 @@ fn list_bag(
 }
 
 /// The valuation with the bags that the counts say, in the place of its own. A count that is not positive is none, and
-/// of equal elements the last one counts. `Wide` comes only where a product, a partial sum or the value of an element has
-/// more than 128 bits.
+/// of equal elements the last one counts. `Wide` comes only where the value of an element has more than 128 bits.
 pub fn rebuild_bags(
     alloc: Global,
     counts: &[Count],
