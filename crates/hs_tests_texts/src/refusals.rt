@@ -37,6 +37,8 @@ pub fn of_sources(alloc: Global) -> Result<Vec<Line>, NoMemory> {
     all.push(Refusal::Unset(6))?;
     all.push(Refusal::NoReturn(7))?;
     all.push(Refusal::TooLong(8))?;
+    all.push(Refusal::RefTwice(9))?;
+    all.push(Refusal::ReturnInLoop(10))?;
     refused(alloc, all)
 }
 
