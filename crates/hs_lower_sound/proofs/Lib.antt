@@ -1,0 +1,13 @@
+pub mod Passed
+pub mod Places
+pub mod ConditionChecks
+pub mod Settings
+pub mod Sums
+pub mod Conditions
+pub mod Segments
+pub mod Values
+pub mod Typed
+pub mod Blocks
+pub mod Programs
+pub mod Pairs
+pub mod Sources
