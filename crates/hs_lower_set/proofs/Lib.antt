@@ -1,0 +1,11 @@
+pub mod Safe
+pub mod Segments
+pub mod Terms
+pub mod Telling
+pub mod Conditions
+pub mod Typing
+pub mod Values
+pub mod Parts
+pub mod Statements
+pub mod Blocks
+pub mod Methods
