@@ -1,0 +1,11 @@
+pub mod Steps
+pub mod Views
+pub mod Sums
+pub mod Conditions
+pub mod Growth
+pub mod Placing
+pub mod Reached
+pub mod Statements
+pub mod Branching
+pub mod Simulation
+pub mod Methods
