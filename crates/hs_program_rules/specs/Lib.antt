@@ -1,0 +1,5 @@
+pub mod States
+pub mod Parts
+pub mod Table
+pub mod Safe
+pub mod Laws
