@@ -1,0 +1,13 @@
+//! What holds of every writable derivation.
+
+ghost use Rattle.hs_dtext_laws.specs.Laws.{DerivationsComeBack, NodesComeBack};
+
+/// The line of a writable node is read as that node.
+pub fn nodes_come_back()
+    ensures { NodesComeBack }
+{}
+
+/// The text of a writable derivation is read as that derivation.
+pub fn derivations_come_back()
+    ensures { DerivationsComeBack }
+{}
