@@ -5,7 +5,7 @@ use Rattle.clap.specs.Words.{Text, subcommand_of, takes}
 use Rattle.clap.proofs.OnLiterals.{clap_on_literals}
 use Rattle.hs_cli.specs.Command.{hipsleek_app}
 use Rattle.hs_cli.specs.Job.{job_of}
-use Rattle.hs_cli.specs.declared.jobs.Job.TheVariants.{Sleek}
+use Rattle.hs_cli.specs.declared.jobs.Job.TheVariants.{Core, Run, Sleek}
 
 -- each of these names a job
 abbrev job_words : List (List Text)
@@ -20,6 +20,10 @@ job_words = (codes "sleek" ∷ codes "a" ∷ [])
     ∷ (codes "sleek" ∷ codes "--rank=7" ∷ codes "a" ∷ [])
     ∷ (codes "sleek" ∷ codes "a" ∷ codes "--goals=1" ∷ codes "--atoms=1" ∷ codes "--xpure=0" ∷ codes "--residues=1" ∷ [])
     ∷ (codes "sleek" ∷ codes "a" ∷ codes "--goals=200000" ∷ codes "--atoms=2000000" ∷ codes "--xpure=3" ∷ codes "--residues=16" ∷ [])
+    ∷ (codes "core" ∷ codes "a" ∷ [])
+    ∷ (codes "run" ∷ codes "a" ∷ codes "f" ∷ codes "h" ∷ [])
+    ∷ (codes "run" ∷ codes "a" ∷ codes "run" ∷ codes "a" ∷ codes "--steps" ∷ codes "0" ∷ [])
+    ∷ (codes "run" ∷ codes "--steps=1000000" ∷ codes "a" ∷ codes "f" ∷ codes "h" ∷ [])
     ∷ []
 
 -- and none of these
@@ -47,6 +51,15 @@ other_words = []
     ∷ (codes "sleek" ∷ codes "a" ∷ codes "--residues" ∷ codes "0" ∷ [])
     ∷ (codes "sleek" ∷ codes "a" ∷ codes "--residues" ∷ codes "17" ∷ [])
     ∷ (codes "sleek" ∷ codes "a" ∷ codes "--level" ∷ codes "1" ∷ [])
+    ∷ (codes "core" ∷ [])
+    ∷ (codes "core" ∷ codes "a" ∷ codes "b" ∷ [])
+    ∷ (codes "core" ∷ codes "a" ∷ codes "--steps=1" ∷ [])
+    ∷ (codes "run" ∷ codes "a" ∷ [])
+    ∷ (codes "run" ∷ codes "a" ∷ codes "f" ∷ [])
+    ∷ (codes "run" ∷ codes "a" ∷ codes "f" ∷ codes "h" ∷ codes "b" ∷ [])
+    ∷ (codes "run" ∷ codes "a" ∷ codes "f" ∷ codes "h" ∷ codes "--steps" ∷ codes "1000001" ∷ [])
+    ∷ (codes "run" ∷ codes "a" ∷ codes "f" ∷ codes "h" ∷ codes "--rank" ∷ codes "1" ∷ [])
+    ∷ (codes "sleek" ∷ codes "a" ∷ codes "--steps" ∷ codes "1" ∷ [])
     ∷ []
 
 pub takes-job_words : list_all (takes hipsleek_app) job_words ≡ true
@@ -70,3 +83,20 @@ pub job_of-example : job_of (subcommand_of hipsleek_app (codes "sleek" ∷ codes
     }))
 unfolding clap_on_literals
 job_of-example = refl
+
+pub job_of-core : job_of (subcommand_of hipsleek_app (codes "core" ∷ codes "a" ∷ [])) ≡ Some (Core (codes "a"))
+unfolding clap_on_literals
+job_of-core = refl
+
+pub job_of-run : job_of (subcommand_of hipsleek_app (codes "run" ∷ codes "a" ∷ codes "f" ∷ codes "--steps=5" ∷ codes "h" ∷ []))
+    ≡ Some (Run (codes "a") (codes "f") (codes "h") (record {
+      rank = 12;
+      goals = 20000;
+      atoms = 200000;
+      level = 1;
+      residues = 4;
+      pieces = 1;
+      steps = 5;
+    }))
+unfolding clap_on_literals
+job_of-run = refl

@@ -1,6 +1,6 @@
 pub mod Faultless
 pub mod Fits
 pub mod Numbers
+pub mod Making
 pub mod Taken
-pub mod Parsed
 pub mod Examples

@@ -1,5 +1,5 @@
 -- What the matches of the command are where it takes the words.
-use Rattle.std.proofs.Common.{◌≡◌, ◌&&◌, Bool, cond, true, false, refl, ap, inl, inr, arith, List, [], ◌∷◌, codes, is_some, Option, Some, None, length, lit<, lit≤, nat_le, option_map}
+use Rattle.std.proofs.Common.{◌≡◌, ◌∙◌, ◌&&◌, Bool, cond, true, false, refl, ap, sym, subst, inl, inr, arith, List, [], ◌∷◌, codes, is_some, Option, Some, None, length, lit<, lit≤, nat_le, option_map, option_and_then, unwrap_or}
 use Rattle.std.specs.List.{AllByRecursion}
 use Rattle.std.specs.Option.{option_map_or}
 use Rattle.clap.specs.Walk.{Row, Text, answers_to, first_of, nothing_held, rows_after, walk}
@@ -7,33 +7,38 @@ use Rattle.clap.specs.Simple.{Shape, argument_words, built, built_leaf, entered,
 use Rattle.clap.specs.Takes.{entered_passes, is_given, level_passes, takes}
 use Rattle.clap.specs.Faults.{fault_of}
 use Rattle.clap.proofs.WalkLemmas.{both}
-use Rattle.hs_cli.specs.Command.{hipsleek_app, sleek_shape}
-use Rattle.hs_cli.specs.Job.{AreInRange, HasNumbers, options_of}
+use Rattle.hs_cli.specs.Command.{core_shape, hipsleek_app, run_shape, sleek_shape}
+use Rattle.hs_cli.specs.Job.{AreInRange, HasNamedNumbers, HasNumber, HasNumbers, IsInRange, core_job_of, job_of, options_of, run_job_of, run_options_of, sleek_job_of}
+use Rattle.hs_cli.specs.declared.jobs.Job.{Job}
+use Rattle.hs_cli.specs.declared.jobs.Job.TheVariants.{Core, Run, Sleek}
 use Rattle.hs_cli.proofs.Faultless.{faultless-takes}
 use Rattle.hs_cli.proofs.Fits.{HasNoDefaults, IsOwn, RowsFit, arguments_given, given_has_value, level_fits, level_valid, one_passed, subcommand_given}
 use Rattle.hs_cli.proofs.Numbers.{IsOptionBetween, option_fits, option_within, signed_between_is, unsigned_between_is}
 
--- `sleek` as building leaves it
+-- the subcommands as building leaves them
 abbrev sleek_built : Shape
 sleek_built = built_leaf (inherited (built hipsleek_app).top sleek_shape)
 
-subs_are : (built hipsleek_app).subs ≡ sleek_built ∷ []
-subs_are = refl
+abbrev core_built : Shape
+core_built = built_leaf (inherited (built hipsleek_app).top core_shape)
+
+abbrev run_built : Shape
+run_built = built_leaf (inherited (built hipsleek_app).top run_shape)
 
 -- a command without a fault takes the words
 pub taken_without_fault : (words : List Text) → fault_of hipsleek_app words ≡ [] → takes hipsleek_app words ≡ true
-taken_without_fault words e = faultless-takes hipsleek_app words refl (refl, refl) ((refl, refl), tt) e
+taken_without_fault words e = faultless-takes hipsleek_app words refl (refl, refl) ((refl, refl), ((refl, refl), ((refl, refl), tt))) e
 
 never : (x y : Bool) → (x && (y && false)) ≡ true → ⊥
 never true true e = cc
 never true false e = cc
 never false y e = cc
 
-abbrev OwnsRules : Type 0
-OwnsRules = AllByRecursion (IsOwn sleek_built.rules) sleek_built.rules
+abbrev OwnsRules : Shape → Type 0
+OwnsRules s = AllByRecursion (IsOwn s.rules) s.rules
 
-owned : OwnsRules
-owned = (
+sleek_owned : OwnsRules sleek_built
+sleek_owned = (
   (refl, inl (refl, omega arith)),
   (
     (refl, inl (refl, omega arith)),
@@ -56,18 +61,51 @@ owned = (
   ),
 )
 
-without_defaults : HasNoDefaults sleek_built.rules
-without_defaults = (refl, (refl, (refl, (refl, (refl, (refl, (refl, tt)))))))
+core_owned : OwnsRules core_built
+core_owned = (
+  (refl, inl (refl, omega arith)),
+  (
+    (refl, inr (λ again values rows e. never (nat_le 0 (length values)) (nat_le (length values) 0) e)),
+    tt,
+  ),
+)
 
--- the words name `sleek`, and its rows have a FILE and numbers
-pub record IsTaken (words : List Text) : Type 0 where
-  pub rows : List Row
-  pub named : subcommand_of hipsleek_app words ≡ Some (codes "sleek", rows)
-  pub file : is_some (first_of (codes "file") rows) ≡ true
-  pub numbers : HasNumbers rows
-  pub ranges : AreInRange (options_of rows)
+run_owned : OwnsRules run_built
+run_owned = (
+  (refl, inl (refl, omega arith)),
+  (
+    (refl, inl (refl, omega arith)),
+    (
+      (refl, inl (refl, omega arith)),
+      (
+        (refl, inl (refl, omega arith)),
+        (
+          (refl, inr (λ again values rows e. never (nat_le 0 (length values)) (nat_le (length values) 0) e)),
+          tt,
+        ),
+      ),
+    ),
+  ),
+)
 
--- the values of the options lie in their ranges
+sleek_defaults : HasNoDefaults sleek_built.rules
+sleek_defaults = (refl, (refl, (refl, (refl, (refl, (refl, (refl, tt)))))))
+
+core_defaults : HasNoDefaults core_built.rules
+core_defaults = (refl, (refl, tt))
+
+run_defaults : HasNoDefaults run_built.rules
+run_defaults = (refl, (refl, (refl, (refl, (refl, tt)))))
+
+-- the matches of a subcommand name a job, whose numbers are in their ranges
+pub record IsTaken (matches : Option (Text × List Row)) : Type 0 where
+  pub numbers : HasNamedNumbers matches
+  pub named : is_some (job_of matches) ≡ true
+  pub ranges : (j : Job) → job_of matches ≡ Some j → IsInRange j
+
+-- ---- the values of options
+
+-- the values of the options of `sleek` lie in their ranges
 pub record HasRanges (rows : List Row) : Type 0 where
   pub rank : IsOptionBetween 0 64 (codes "rank") rows
   pub goals : IsOptionBetween 1 200000 (codes "goals") rows
@@ -104,26 +142,89 @@ options_in_range rows h = record {
   steps = (lit≤ tt, lit≤ tt);
 }
 
-sleek_file : (words : List Text) → level_passes sleek_built [] nothing_held words false ≡ true → is_given (codes "file") (rows_after sleek_built.rules [] words) ≡ true
-sleek_file words e =
-    let rows = rows_after sleek_built.rules [] words in
-    (both (is_given (codes "file") rows) _ (arguments_given sleek_built rows (level_valid sleek_built [] words false e))).0
+-- the steps of `run` lie in their range
+abbrev HasSteps : List Row → Type 0
+HasSteps rows = IsOptionBetween 0 1000000 (codes "steps") rows
 
-sleek_taken : (words given : List Text) → subcommand_of hipsleek_app given ≡ Some (codes "sleek", rows_after sleek_built.rules [] words)
-    → level_passes sleek_built [] nothing_held words false ≡ true → IsTaken given
-sleek_taken words given named e =
+steps_of : (rows : List Row) → RowsFit run_built.rules rows → HasSteps rows
+steps_of rows fits text e =
+    let p = one_passed run_built.rules rows (codes "steps") _ text fits refl e in
+    unsigned_between_is 0 1000000 p.0 text p.1 p.2
+
+run_in_range : (rows : List Row) → HasSteps rows → AreInRange (run_options_of rows)
+run_in_range rows h = record {
+  rank = (lit≤ tt, lit≤ tt);
+  goals = (lit≤ tt, lit≤ tt);
+  atoms = (lit≤ tt, lit≤ tt);
+  level = (lit≤ tt, lit≤ tt);
+  residues = (lit≤ tt, lit≤ tt);
+  pieces = (lit≤ tt, lit≤ tt);
+  steps = option_within 0 1000000 1000 (codes "steps") rows (lit≤ tt) (lit≤ tt) h;
+}
+
+-- ---- the jobs of the subcommands
+
+-- a word that is there makes what is made of it
+made : {A B : Type 0} (f : A → Option B) (o : Option A) → is_some o ≡ true → ((a : A) → is_some (f a) ≡ true) → is_some (option_and_then f o) ≡ true
+made f None given each = cc
+made f (Some a) given each = each a
+
+mapped : {A B : Type 0} (f : A → B) (o : Option A) → is_some o ≡ true → is_some (option_map f o) ≡ true
+mapped f None given = cc
+mapped f (Some a) given = refl
+
+-- what one word makes
+from_one : (P : Job → Type 0) (f : Text → Job) → ((t : Text) → P (f t)) → (o : Option Text) (j : Job) → option_map f o ≡ Some j → P j
+from_one P f each None j is = cc
+from_one P f each (Some t) j is = let one : f t ≡ j = ap (λ o. unwrap_or o j) is in subst P one (each t)
+
+from_more : (P : Job → Type 0) (f : Text → Option Job) → ((t : Text) (j : Job) → f t ≡ Some j → P j) → (o : Option Text) (j : Job) → option_and_then f o ≡ Some j → P j
+from_more P f each None j is = cc
+from_more P f each (Some t) j is = each t j is
+
+sleek_taken : (words : List Text) → level_passes sleek_built [] nothing_held words false ≡ true → IsTaken (Some (rows_at sleek_built words))
+sleek_taken words e =
     let rows = rows_after sleek_built.rules [] words in
-    let fits = level_fits sleek_built [] words false owned without_defaults e in
+    let fits = level_fits sleek_built [] words false sleek_owned sleek_defaults e in
     let ranges = ranges_of rows fits in
+    let given = arguments_given sleek_built rows (level_valid sleek_built [] words false e) in
+    let file = given_has_value sleek_built.rules rows (codes "file") _ fits refl (both (is_given (codes "file") rows) _ given).0 in
     record {
-      rows = rows;
-      named = named;
-      file = given_has_value sleek_built.rules rows (codes "file") _ fits refl (sleek_file words e);
-      numbers = numbers_of rows ranges;
-      ranges = options_in_range rows ranges;
+      numbers = (λ is. numbers_of rows ranges, λ is. absurd (cc));
+      named = mapped (λ file. Sleek file (options_of rows)) (first_of (codes "file") rows) file;
+      ranges = from_one IsInRange (λ file. Sleek file (options_of rows)) (λ t. options_in_range rows ranges) (first_of (codes "file") rows);
     }
 
-pub taken : (words : List Text) → takes hipsleek_app words ≡ true → IsTaken words
+core_taken : (words : List Text) → level_passes core_built [] nothing_held words false ≡ true → IsTaken (Some (rows_at core_built words))
+core_taken words e =
+    let rows = rows_after core_built.rules [] words in
+    let fits = level_fits core_built [] words false core_owned core_defaults e in
+    let given = arguments_given core_built rows (level_valid core_built [] words false e) in
+    let file = given_has_value core_built.rules rows (codes "file") _ fits refl (both (is_given (codes "file") rows) _ given).0 in
+    record {
+      numbers = (λ is. absurd (cc), λ is. absurd (cc));
+      named = mapped Core (first_of (codes "file") rows) file;
+      ranges = from_one IsInRange Core (λ t. tt) (first_of (codes "file") rows);
+    }
+
+run_taken : (words : List Text) → level_passes run_built [] nothing_held words false ≡ true → IsTaken (Some (rows_at run_built words))
+run_taken words e =
+    let rows = rows_after run_built.rules [] words in
+    let fits = level_fits run_built [] words false run_owned run_defaults e in
+    let steps = steps_of rows fits in
+    let given = both (is_given (codes "file") rows) _ (arguments_given run_built rows (level_valid run_built [] words false e)) in
+    let more = both (is_given (codes "method") rows) _ given.1 in
+    let file = given_has_value run_built.rules rows (codes "file") _ fits refl given.0 in
+    let method = given_has_value run_built.rules rows (codes "method") _ fits refl more.0 in
+    let heap = given_has_value run_built.rules rows (codes "heap") _ fits refl (both (is_given (codes "heap") rows) _ more.1).0 in
+    record {
+      numbers = (λ is. absurd (cc), λ is. option_fits 64 0 1000000 (codes "steps") rows (lit< tt) steps);
+      named = made _ (first_of (codes "file") rows) file (λ f. made _ (first_of (codes "method") rows) method (λ m. mapped _ (first_of (codes "heap") rows) heap));
+      ranges = from_more IsInRange _ (λ f. from_more IsInRange _ (λ m. from_one IsInRange _ (λ h. run_in_range rows steps) (first_of (codes "heap") rows))
+          (first_of (codes "method") rows)) (first_of (codes "file") rows);
+    }
+
+pub taken : (words : List Text) → takes hipsleek_app words ≡ true → IsTaken (subcommand_of hipsleek_app words)
 taken words e =
     let b = built hipsleek_app in
     let ws = argument_words hipsleek_app words in
@@ -131,18 +232,32 @@ taken words e =
     let p = both (entered_passes b stop) _ (both (is_simple hipsleek_app) _ e).1 in
     let met = subcommand_given b.top (rows_after b.top.rules (names_of b) ws) (is_some (entered b stop)) refl
     (level_valid b.top (names_of b) ws (is_some (entered b stop)) p.1) in
-    go stop refl p.0 met
+    go stop p.0 met
   where
-    -- the one subcommand answers to the word, or none does
-    at : (answers : Bool) (p : Text × List Text)
-        → subcommand_of hipsleek_app words ≡ option_map (λ s. rows_at s p.1) (cond answers (Some sleek_built) None)
-        → option_map_or (λ s. level_passes s [] nothing_held p.1 false) (cond answers (Some sleek_built) None) true ≡ true
-        → is_some (option_map (λ s. rows_at s p.1) (cond answers (Some sleek_built) None)) ≡ true → IsTaken words
-    at true p same passes met = sleek_taken p.1 words same passes
-    at false p same passes met = cc
+    -- the first of the subcommands that answers to the word, or none
+    first : (sleek core run : Bool) → Option Shape
+    first sleek core run = cond sleek (Some sleek_built) (cond core (Some core_built) (cond run (Some run_built) None))
 
-    go : (stop : Option (Text × List Text))
-        → (walk (built hipsleek_app).top.rules (names_of (built hipsleek_app)) nothing_held (argument_words hipsleek_app words)).stopped ≡ stop
-        → entered_passes (built hipsleek_app) stop ≡ true → is_some (entered (built hipsleek_app) stop) ≡ true → IsTaken words
-    go None is passes met = cc
-    go (Some p) is passes met = at (answers_to p.0 (label_of sleek_built)) p (ap (entered (built hipsleek_app)) is) passes met
+    at : (sleek core run : Bool) (ws : List Text)
+        → option_map_or (λ s. level_passes s [] nothing_held ws false) (first sleek core run) true ≡ true
+        → is_some (option_map (λ s. rows_at s ws) (first sleek core run)) ≡ true → IsTaken (option_map (λ s. rows_at s ws) (first sleek core run))
+    at true core run ws passes met = sleek_taken ws passes
+    at false true run ws passes met = core_taken ws passes
+    at false false true ws passes met = run_taken ws passes
+    at false false false ws passes met = cc
+
+    go : (stop : Option (Text × List Text)) → entered_passes (built hipsleek_app) stop ≡ true
+        → is_some (entered (built hipsleek_app) stop) ≡ true → IsTaken (entered (built hipsleek_app) stop)
+    go None passes met = cc
+    go (Some p) passes met =
+        at (answers_to p.0 (label_of sleek_built)) (answers_to p.0 (label_of core_built)) (answers_to p.0 (label_of run_built)) p.1 passes met
+
+-- ---- words that the command does not take
+
+pub not_taken : (b : Bool) → (b ≡ true → ⊥) → b ≡ false
+not_taken true refuted = absurd (refuted refl)
+not_taken false refuted = refl
+
+pub none_lacks : (o : Option Job) → o ≡ None → is_some o ≡ true → ⊥
+none_lacks None none named = cc
+none_lacks (Some j) none named = cc

@@ -6,9 +6,9 @@ use Rattle.clap.specs.declared.builder.ArgAction.TheVariants.{Set}
 use Rattle.clap.specs.declared.builder.ValueParser.{ValueParser}
 use Rattle.clap.specs.declared.builder.ValueParser.TheVariants.{Signed, Unsigned}
 
--- the positional FILE, which must be there
-abbrev pub file_rule : Rule
-file_rule = record (new_rule (codes "file")) { required = true; action = Some Set }
+-- a positional of this name, which must be there
+abbrev pub positional_rule : Text → Rule
+positional_rule name = record (new_rule name) { required = true; action = Some Set }
 
 -- the option `--name`, used once at most, with one value that passes the parser
 abbrev pub option_rule : Text → ValueParser → Rule
@@ -18,12 +18,26 @@ option_rule name parser =
 -- `sleek` with its arguments, each number in its range
 abbrev pub sleek_shape : Shape
 sleek_shape = record (new_shape (codes "sleek")) {
-  rules = file_rule
+  rules = positional_rule (codes "file")
       ∷ option_rule (codes "rank") (Signed (pos 0) (pos 64))
       ∷ option_rule (codes "goals") (Unsigned 1 200000)
       ∷ option_rule (codes "atoms") (Unsigned 1 2000000)
       ∷ option_rule (codes "xpure") (Signed (pos 0) (pos 3))
       ∷ option_rule (codes "residues") (Signed (pos 1) (pos 16))
+      ∷ [];
+}
+
+-- `core` with its file
+abbrev pub core_shape : Shape
+core_shape = record (new_shape (codes "core")) { rules = positional_rule (codes "file") ∷ [] }
+
+-- `run` with its file, its method, the file of its heap, and the bound on its steps
+abbrev pub run_shape : Shape
+run_shape = record (new_shape (codes "run")) {
+  rules = positional_rule (codes "file")
+      ∷ positional_rule (codes "method")
+      ∷ positional_rule (codes "heap")
+      ∷ option_rule (codes "steps") (Unsigned 0 1000000)
       ∷ [];
 }
 
@@ -38,4 +52,4 @@ hipsleek_shape = record (new_shape (codes "hipsleek")) {
 
 -- the command with its subcommands
 abbrev pub hipsleek_app : App
-hipsleek_app = record { top = hipsleek_shape; subs = sleek_shape ∷ [] }
+hipsleek_app = record { top = hipsleek_shape; subs = sleek_shape ∷ core_shape ∷ run_shape ∷ [] }

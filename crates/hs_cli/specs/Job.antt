@@ -6,7 +6,7 @@ use Rattle.std.specs.Str.{bytes_eq}
 use Rattle.std.specs.Str.Parse.{IsNumeral, digits_value, without_leading_plus}
 use Rattle.clap.specs.Words.{Row, Text, first_of, one_of}
 use Rattle.hs_cli.specs.declared.jobs.Job.{Job}
-use Rattle.hs_cli.specs.declared.jobs.Job.TheVariants.{Sleek}
+use Rattle.hs_cli.specs.declared.jobs.Job.TheVariants.{Core, Run, Sleek}
 use Rattle.hs_cli.specs.declared.jobs.Options.{Options}
 
 -- the number that the digits of a text write, where a plus may stand first
@@ -29,14 +29,38 @@ options_of rows = record {
   steps = 1000;
 }
 
+-- the options that the rows of `run` give
+abbrev pub run_options_of : List Row → Options
+run_options_of rows = record {
+  rank = 12;
+  goals = 20000;
+  atoms = 200000;
+  level = 1;
+  residues = 4;
+  pieces = 1;
+  steps = number_or 1000 (one_of (codes "steps") rows);
+}
+
 -- the job that the rows of `sleek` name
 abbrev pub sleek_job_of : List Row → Option Job
 sleek_job_of rows =
     option_map (λ file. Sleek file (options_of rows)) (first_of (codes "file") rows)
 
+-- the job that the rows of `core` name
+abbrev pub core_job_of : List Row → Option Job
+core_job_of rows = option_map Core (first_of (codes "file") rows)
+
+-- the job that the rows of `run` name
+abbrev pub run_job_of : List Row → Option Job
+run_job_of rows = option_and_then (λ file. option_and_then (λ method.
+    option_map (λ heap. Run file method heap (run_options_of rows))
+    (first_of (codes "heap") rows)) (first_of (codes "method") rows)) (first_of (codes "file") rows)
+
 -- the job that the rows of a subcommand name
 abbrev pub named_job : Text × List Row → Option Job
-named_job p = if bytes_eq p.0 (codes "sleek") then sleek_job_of p.1 else None
+named_job p = if bytes_eq p.0 (codes "sleek") then sleek_job_of p.1
+    else if bytes_eq p.0 (codes "core") then core_job_of p.1
+    else if bytes_eq p.0 (codes "run") then run_job_of p.1 else None
 
 -- the job that the matches of the subcommand name
 abbrev pub job_of : Option (Text × List Row) → Option Job
@@ -59,14 +83,22 @@ pub record AreInRange (o : Options) : Type 0 where
 -- each limit of the job lies in its range
 abbrev pub IsInRange : Job → Type 0
 IsInRange (Sleek file options) = AreInRange options
+IsInRange (Core file) = Unit {0}
+IsInRange (Run file method heap options) = AreInRange options
 
 -- the value of an option, where it is used, is a number of so many bits
 abbrev pub HasNumber : ℕ → Text → List Row → Type 0
 HasNumber bits id rows = (text : Text) → one_of id rows ≡ Some text
     → IsNumeral 10 (without_leading_plus text) × (number_in text < 2 ^ bits)
 
--- the values of the options are numbers of their types
+-- the values of the options of `sleek` are numbers of their types
 abbrev pub HasNumbers : List Row → Type 0
 HasNumbers rows = HasNumber 32 (codes "rank") rows × HasNumber 64 (codes "goals") rows
     × HasNumber 64 (codes "atoms") rows × HasNumber 32 (codes "xpure") rows
     × HasNumber 32 (codes "residues") rows
+
+-- the values of the options of the subcommand are numbers of their types
+abbrev pub HasNamedNumbers : Option (Text × List Row) → Type 0
+HasNamedNumbers None = Unit {0}
+HasNamedNumbers (Some p) = (p.0 ≡ codes "sleek" → HasNumbers p.1)
+    × (p.0 ≡ codes "run" → HasNumber 64 (codes "steps") p.1)

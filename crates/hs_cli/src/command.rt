@@ -3,7 +3,7 @@
 ghost use Rattle.std.specs.Prelude.{◌≡◌, IfOk, false};
 ghost use Rattle.clap.specs.Words.{app_of, rule_of, shape_of};
 ghost use Rattle.clap.specs.declared.builder.command.Command.TheViews.{out-Command as fields_of};
-ghost use Rattle.hs_cli.specs.Command.{file_rule, hipsleek_app, option_rule, sleek_shape};
+ghost use Rattle.hs_cli.specs.Command.{core_shape, hipsleek_app, option_rule, positional_rule, run_shape, sleek_shape};
 
 use clap::builder::ValueParser;
 use clap::{Arg, ArgAction, Command, value_parser};
@@ -14,11 +14,15 @@ pub(crate) fn hipsleek<'a>(alloc: Global) -> Result<Command<'a>, AllocError>
     ensures { IfOk result (λ c. app_of c ≡ hipsleek_app) }
 {
     let sleek = sleek(alloc)?;
+    let core = core(alloc)?;
+    let run = run(alloc)?;
     Command::new(alloc, "hipsleek")
         .no_binary_name(true)
         .subcommand_required(true)
         .disable_help_subcommand(true)
-        .subcommand(sleek)
+        .subcommand(sleek)?
+        .subcommand(core)?
+        .subcommand(run)
 }
 
 fn sleek<'a>(alloc: Global) -> Result<Command<'a>, AllocError>
@@ -30,7 +34,7 @@ fn sleek<'a>(alloc: Global) -> Result<Command<'a>, AllocError>
     let xpure = option(alloc, "xpure", value_parser!(u32).range(0..=3));
     let residues = option(alloc, "residues", value_parser!(u32).range(1..=16));
     Command::new(alloc, "sleek")
-        .arg(file(alloc))?
+        .arg(positional(alloc, "file"))?
         .arg(rank)?
         .arg(goals)?
         .arg(atoms)?
@@ -38,12 +42,27 @@ fn sleek<'a>(alloc: Global) -> Result<Command<'a>, AllocError>
         .arg(residues)
 }
 
-fn file<'a>(alloc: Global) -> Arg<'a>
-    ensures { (rule_of result ≡ file_rule) × (result.global ≡ false) }
+fn core<'a>(alloc: Global) -> Result<Command<'a>, AllocError>
+    ensures { IfOk result (λ c. (shape_of c ≡ core_shape) × ((fields_of c).has_globals ≡ false)) }
 {
-    Arg::new(alloc, "file")
-        .required(true)
-        .action(ArgAction::Set)
+    Command::new(alloc, "core").arg(positional(alloc, "file"))
+}
+
+fn run<'a>(alloc: Global) -> Result<Command<'a>, AllocError>
+    ensures { IfOk result (λ c. (shape_of c ≡ run_shape) × ((fields_of c).has_globals ≡ false)) }
+{
+    let steps = option(alloc, "steps", value_parser!(u64).range(0..=1_000_000));
+    Command::new(alloc, "run")
+        .arg(positional(alloc, "file"))?
+        .arg(positional(alloc, "method"))?
+        .arg(positional(alloc, "heap"))?
+        .arg(steps)
+}
+
+fn positional<'a>(alloc: Global, name: &'a str) -> Arg<'a>
+    ensures { (rule_of result ≡ positional_rule name.entry.now) × (result.global ≡ false) }
+{
+    Arg::new(alloc, name).required(true).action(ArgAction::Set)
 }
 
 fn option<'a>(alloc: Global, name: &'a str, parser: ValueParser<'a>) -> Arg<'a>

@@ -25,4 +25,8 @@ pub struct Options {
 pub enum Job {
     /// To prove the entailments of the file of this name.
     Sleek(Text, Options),
+    /// To print the core program of the file of this name.
+    Core(Text),
+    /// To run a method of a file on a heap: the file's name, the method's name, the name of the file of the heap.
+    Run(Text, Text, Text, Options),
 }

@@ -2,9 +2,9 @@
 
 ghost use Rattle.std.specs.Prelude.{◌≡◌, IfOk, IsErrOf, None, Some, codes, false, map, true};
 ghost use Rattle.std.specs.String.{string_bytes};
-ghost use Rattle.clap.specs.Words.{first_of, found_of, rows_of, subcommand_of, takes};
+ghost use Rattle.clap.specs.Words.{first_of, found_of, rows_of, subcommand_of, subcommand_rows_of, takes};
 ghost use Rattle.hs_cli.specs.Command.{hipsleek_app};
-ghost use Rattle.hs_cli.specs.Job.{HasNumbers, IsInRange, job_of, options_of, sleek_job_of};
+ghost use Rattle.hs_cli.specs.Job.{HasNamedNumbers, HasNumber, HasNumbers, IsInRange, core_job_of, job_of, options_of, run_job_of, run_options_of, sleek_job_of};
 ghost use Rattle.hs_cli.specs.declared.error.WordsError.TheVariants.{Words};
 
 use crate::command::hipsleek;
@@ -24,20 +24,61 @@ pub fn job(alloc: Global, words: &[String]) -> Result<Job, WordsError>
     ensures ranges { IfOk result IsInRange }
 {
     let matches = hipsleek(alloc)?.try_get_matches_from(words)?;
-    let sleek = matches
-        .subcommand_matches("sleek")
-        .ok_or(WordsError::Words)?;
-    sleek_job(alloc, sleek)
+    named_job(alloc, &matches)
+}
+
+// The job of the subcommand that was met.
+fn named_job(alloc: Global, matches: &ArgMatches<'_>) -> Result<Job, WordsError>
+    requires { HasNamedNumbers (subcommand_rows_of matches.now) }
+    ensures words { IsErrOf result Words → job_of (subcommand_rows_of matches.now) ≡ None }
+    ensures job { IfOk result (λ j. job_of (subcommand_rows_of matches.now) ≡ Some j) }
+{
+    if let Some(sleek) = matches.subcommand_matches("sleek") {
+        return sleek_job(alloc, sleek);
+    }
+    if let Some(core) = matches.subcommand_matches("core") {
+        return core_job(alloc, core);
+    }
+    if let Some(run) = matches.subcommand_matches("run") {
+        return run_job(alloc, run);
+    }
+    Err(WordsError::Words)
 }
 
 fn sleek_job(alloc: Global, matches: &ArgMatches<'_>) -> Result<Job, WordsError>
     requires { HasNumbers (rows_of (found_of matches.now)) }
-    ensures words { IsErrOf result Words → first_of (codes "file") (rows_of (found_of matches.now)) ≡ None }
+    ensures words { IsErrOf result Words → sleek_job_of (rows_of (found_of matches.now)) ≡ None }
     ensures job { IfOk result (λ j. sleek_job_of (rows_of (found_of matches.now)) ≡ Some j) }
 {
-    let file = matches.get_str("file").ok_or(WordsError::Words)?;
-    let file = Text::from_str(alloc, file)?;
+    let file = word(alloc, matches, "file")?;
     Ok(Job::Sleek(file, options(matches)))
+}
+
+fn core_job(alloc: Global, matches: &ArgMatches<'_>) -> Result<Job, WordsError>
+    ensures words { IsErrOf result Words → core_job_of (rows_of (found_of matches.now)) ≡ None }
+    ensures job { IfOk result (λ j. core_job_of (rows_of (found_of matches.now)) ≡ Some j) }
+{
+    Ok(Job::Core(word(alloc, matches, "file")?))
+}
+
+fn run_job(alloc: Global, matches: &ArgMatches<'_>) -> Result<Job, WordsError>
+    requires { HasNumber 64 (codes "steps") (rows_of (found_of matches.now)) }
+    ensures words { IsErrOf result Words → run_job_of (rows_of (found_of matches.now)) ≡ None }
+    ensures job { IfOk result (λ j. run_job_of (rows_of (found_of matches.now)) ≡ Some j) }
+{
+    let file = word(alloc, matches, "file")?;
+    let method = word(alloc, matches, "method")?;
+    let heap = word(alloc, matches, "heap")?;
+    Ok(Job::Run(file, method, heap, run_options(matches)))
+}
+
+// The word that a positional has.
+fn word(alloc: Global, matches: &ArgMatches<'_>, id: &str) -> Result<Text, WordsError>
+    ensures words { IsErrOf result Words → first_of id.now (rows_of (found_of matches.now)) ≡ None }
+    ensures word { IfOk result (λ text. first_of id.now (rows_of (found_of matches.now)) ≡ Some text) }
+{
+    let word = matches.get_str(id).ok_or(WordsError::Words)?;
+    Ok(Text::from_str(alloc, word)?)
 }
 
 fn options(matches: &ArgMatches<'_>) -> Options
@@ -52,5 +93,20 @@ fn options(matches: &ArgMatches<'_>) -> Options
         residues: matches.get_one("residues").unwrap_or(4),
         pieces: 1,
         steps: 1000,
+    }
+}
+
+fn run_options(matches: &ArgMatches<'_>) -> Options
+    requires { HasNumber 64 (codes "steps") (rows_of (found_of matches.now)) }
+    ensures { result ≡ run_options_of (rows_of (found_of matches.now)) }
+{
+    Options {
+        rank: 12,
+        goals: 20_000,
+        atoms: 200_000,
+        level: 1,
+        residues: 4,
+        pieces: 1,
+        steps: matches.get_one("steps").unwrap_or(1000),
     }
 }

@@ -127,7 +127,7 @@ pub few_items : (text : List ℕ) (tokens : List Token) (tree : Source) → HasT
     → whole (source 64) text tokens ≡ Ok tree → length tree.items ≤ length text
 few_items text tokens tree has is = let a = tokens_few literal_limit text tokens has in let b = items_few text tokens tree is in omega arith
 
--- ---- entailments and predicates
+-- ---- entailments, predicates and data types
 
 module _ {A B : Type 0} (f : ℕ → A → Builder B) where
   counted_long : (xs : List A) (ys : List B) (n : Numbering)
@@ -151,6 +151,14 @@ preds_few (kind.Pred d ∷ items) = let few = preds_few items in omega arith
 preds_few (kind.Entail d ∷ items) = let few = preds_few items in omega arith
 preds_few (kind.Method d ∷ items) = let few = preds_few items in omega arith
 preds_few (kind.Lemma d ∷ items) = let few = preds_few items in omega arith
+
+nodes_few : (items : List SourceItem) → length (filter_map data_of items) ≤ length items
+nodes_few [] = omega arith
+nodes_few (kind.Node d ∷ items) = let few = nodes_few items in omega arith
+nodes_few (kind.Pred d ∷ items) = let few = nodes_few items in omega arith
+nodes_few (kind.Entail d ∷ items) = let few = nodes_few items in omega arith
+nodes_few (kind.Method d ∷ items) = let few = nodes_few items in omega arith
+nodes_few (kind.Lemma d ∷ items) = let few = nodes_few items in omega arith
 
 module _ (items : List SourceItem) where
   abbrev after_second : Numbering
@@ -181,6 +189,13 @@ few_preds tree r e =
     let mapped = length-map (preds_built tree.items) (λ (p : PredDef × Names). p.0) in
     let few = preds_few tree.items in
     omega (arith, ap (λ (x : Resolved). length x.defs.preds) same, long, mapped)
+
+pub few_nodes : (tree : Source) (r : Resolved) → normal_of tree ≡ Ok r → length r.defs.nodes ≤ length tree.items
+few_nodes tree r e =
+    let same = (outcome-Ok (least (items_normal tree.items (start Closed [])).1.faults) (items_normal tree.items (start Closed [])).0 r e).1 in
+    let long = counted_long (node (entries tree.items)) (filter_map data_of tree.items) [] (after_second tree.items) in
+    let few = nodes_few tree.items in
+    omega (arith, ap (λ (x : Resolved). length x.defs.nodes) same, long)
 
 pub named_preds : (tree : Source) (r : Resolved) → normal_of tree ≡ Ok r → length r.pred_names ≡ length r.defs.preds
 named_preds tree r e =

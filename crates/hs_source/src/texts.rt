@@ -45,12 +45,13 @@ fn tree(alloc: Global, text: &str, tokens: &[Token]) -> Result<Source, SourceErr
 }
 
 // The normal form of a tree.
-#[tactic(auto, using(crate::proofs::Causes::normal_cause, crate::proofs::Counts::few_entailments, crate::proofs::Counts::few_preds, crate::proofs::Counts::named_preds))]
+#[tactic(auto, using(crate::proofs::Causes::normal_cause, crate::proofs::Counts::few_entailments, crate::proofs::Counts::few_preds, crate::proofs::Counts::few_nodes, crate::proofs::Counts::named_preds))]
 fn normal_form(alloc: Global, tree: &Source) -> Result<Resolved, SourceError>
     requires { length tree.now.items < 2 ^ 32 }
     ensures found { IfOk result (λ resolved. normal_of tree.now ≡ Ok resolved) }
     ensures few { IfOk result (λ resolved. length resolved.entailments ≤ length tree.now.items) }
     ensures few_preds { IfOk result (λ resolved. length resolved.defs.preds ≤ length tree.now.items) }
+    ensures few_nodes { IfOk result (λ resolved. length resolved.defs.nodes ≤ length tree.now.items) }
     ensures named { IfOk result (λ resolved. length resolved.pred_names ≡ length resolved.defs.preds) }
     ensures cause { IfErr result (HasTreeCause tree.now) }
 {
@@ -66,6 +67,7 @@ fn resolve_text(alloc: Global, text: &str) -> Result<(Source, Resolved), SourceE
     ensures found { IfOk result (λ r. IsResolved text.now r.0 r.1) }
     ensures few { IfOk result (λ r. length r.1.entailments ≤ length text.now) }
     ensures few_preds { IfOk result (λ r. length r.1.defs.preds ≤ length text.now) }
+    ensures few_nodes { IfOk result (λ r. length r.1.defs.nodes ≤ length text.now) }
     ensures named { IfOk result (λ r. length r.1.pred_names ≡ length r.1.defs.preds) }
     ensures cause { IfErr result (HasCause text.now) }
 {
@@ -85,6 +87,8 @@ pub fn resolve(alloc: Global, bytes: &[u8]) -> Result<(Source, Resolved), Source
     ensures few { IfOk result (λ r. length r.1.entailments ≤ length bytes.now) }
     // No more predicates either, and each has its source names.
     ensures few_preds { IfOk result (λ r. length r.1.defs.preds ≤ length bytes.now) }
+    // Nor has it more data types.
+    ensures few_nodes { IfOk result (λ r. length r.1.defs.nodes ≤ length bytes.now) }
     ensures named { IfOk result (λ r. length r.1.pred_names ≡ length r.1.defs.preds) }
     // The text has this fault first, unless memory ran out.
     ensures cause { IfErr result (HasCause bytes.now) }

@@ -3,7 +3,7 @@ use Rattle.std.proofs.Common.{◌≡◌, inl, inr, ℕ, ◌<◌, List, [], ◌�
 use Rattle.hs_io.specs.Faults.{Rose}
 use Rattle.hs_cli.specs.declared.jobs.Job.{Job}
 use Rattle.hs_cli.specs.declared.jobs.Options.{Options}
-use Rattle.hs_cli.specs.declared.jobs.Job.TheVariants.{Sleek}
+use Rattle.hs_cli.specs.declared.jobs.Job.TheVariants.{Sleek, Core, Run}
 use Rattle.hs_norm.specs.declared.resolved.Resolved.{Resolved}
 use Rattle.hs_print.specs.declared.line.Line.{Line}
 use Rattle.hs_print.specs.declared.line.Line.TheVariants as line
@@ -11,6 +11,11 @@ use Rattle.hs_tool.specs.Status.{is_good, all_good, by_verdicts, status_alone, s
 use Rattle.hs_tool.specs.declared.reply.Reply.{Reply}
 use Rattle.hs_tool.specs.declared.reply.Reply.TheVariants.{FileFault, Refused, Answered}
 use Rattle.hs_tool.specs.Reply.{Known, lines_of}
+use Rattle.hs_machine.specs.declared.runner.RunAnswer.{RunAnswer}
+use Rattle.hs_machine.specs.declared.runner.RunAnswer.TheVariants as answer
+use Rattle.hs_machine.specs.declared.runner.RunEnd.{RunEnd}
+use Rattle.hs_core_lines.specs.Core.{AreCoreLines}
+use Rattle.hs_core_lines.specs.Run.{AreRunLines, answer_line}
 use Rattle.hs_tool.specs.Sleek.{IsSleekReport}
 use Rattle.hs_tool.specs.Run.{IsReply, IsReport}
 use Rattle.hs_tool.specs.Laws.{HasStatusCause, StatusesHaveCauses}
@@ -41,14 +46,38 @@ sleek_below : (options : Options) (r : Resolved) (report : List Line) → IsSlee
 sleek_below options r report right =
     subst (λ (lines : List Line). status_of lines < 2) (sym right.lines) (summed_below (right.preds ++ right.entailments) _ _ _ _)
 
+core_below : (r : Resolved) (report : List Line) → AreCoreLines r report → status_of report < 2
+core_below r report (program, has, is) = subst (λ (lines : List Line). status_of lines < 2) (sym is) (omega arith)
+
+-- the line of a run is good or not
+run_below : (r : Resolved) (method text : List ℕ) (steps : ℕ) (report : List Line) → AreRunLines r method text steps report → status_of report < 2
+run_below r method text steps report right =
+    subst (λ (lines : List Line). status_of lines < 2) (sym right.is) (ended_below right.end right.end.answer)
+  where
+    ended_below : (end : RunEnd) (a : RunAnswer) → status_of (answer_line r.defs right.program end a ∷ []) < 2
+    ended_below end (answer.Returned result) = omega arith
+    ended_below end answer.Running = omega arith
+    ended_below end (answer.Fault number point place) = omega arith
+    ended_below end (answer.Wide number point) = omega arith
+
 module _ (known : Known) (before now : ℕ) where
   -- what answers a job is no refusal
   answer_below : (job : Job) (report : List Line) → IsReply known before now job (Answered report) → status_of report < 2
   answer_below (Sleek name options) report right = sleek_below options right.are.resolved report right.are.is.2
+  answer_below (Core name) report right = core_below right.are.resolved report right.are.is.1
+  answer_below (Run file method heap options) report right =
+      run_below right.are.are.resolved method right.are.bytes options.steps report right.are.are.is.1
 
   fault_rose : (job : Job) (name : List ℕ) → IsReply known before now job (FileFault name) → Rose before now
   fault_rose (Sleek own options) name (inl fault) = fault.1
   fault_rose (Sleek own options) name (inr on) = absurd on.are.is
+  fault_rose (Core own) name (inl fault) = fault.1
+  fault_rose (Core own) name (inr on) = absurd on.are.is
+  fault_rose (Run file method heap options) name (inl fault) = fault.1
+  fault_rose (Run file method heap options) name (inr on) = elim on.are [
+    | inl fault ↦ fault.1
+    | inr text ↦ absurd text.are.is
+  ]
 
   reply_cause : (job : Job) (reply : Reply) → IsReply known before now job reply → HasStatusCause known before now (Some job) (lines_of reply)
   reply_cause job (FileFault name) right = record {

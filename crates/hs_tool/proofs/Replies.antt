@@ -1,13 +1,21 @@
 -- Replies as reports.
-use Rattle.std.proofs.Common.{◌≡◌, ℕ, List, [], ◌∷◌, Bool, true, false, if◌then◌else◌, Option, Some, None, sym, ap, ◌∙◌, subst}
+use Rattle.std.proofs.Common.{◌≡◌, inr, ℕ, List, [], ◌∷◌, Bool, true, false, if◌then◌else◌, Option, Some, None, Result, Ok, Err, IfOk, IfErr, sym, ap, ◌∙◌, subst}
 use Rattle.clap.specs.Words.{takes, subcommand_of}
 use Rattle.hs_cli.specs.Command.{hipsleek_app}
 use Rattle.hs_cli.specs.Job.{job_of}
 use Rattle.hs_cli.specs.declared.jobs.Job.{Job}
 use Rattle.hs_print.specs.declared.line.Line.{Line}
 use Rattle.hs_print.specs.declared.line.Line.TheVariants.{RefusedWords}
+use Rattle.hs_norm.specs.declared.resolved.Resolved.{Resolved}
+use Rattle.hs_founding.specs.Fault.{HasFoundingFault}
+use Rattle.hs_core_lines.specs.declared.error.CoreError.{CoreError}
+use Rattle.hs_core_lines.specs.declared.error.CoreError.TheVariants as error
+use Rattle.hs_print.specs.declared.refusal.Refusal.{Refusal}
 use Rattle.hs_tool.specs.declared.reply.Reply.{Reply}
-use Rattle.hs_tool.specs.Reply.{Known, lines_of}
+use Rattle.hs_tool.specs.declared.reply.Reply.TheVariants.{FileFault, Refused, Answered}
+use Rattle.hs_tool.specs.Reply.{Known, IsSourceReply, IsStagedReply, lines_of}
+use Rattle.hs_tool.specs.Sources.{IsFoundedSource}
+use Rattle.hs_tool.specs.Programs.{IsReplyOf}
 use Rattle.hs_tool.specs.Run.{job_named, IsReply, IsReport}
 
 named : (words : List (List ℕ)) (job : Job) → takes hipsleek_app words ≡ true → job_of (subcommand_of hipsleek_app words) ≡ Some job → job_named words ≡ Some job
@@ -33,3 +41,23 @@ module _ (known : Known) (before now : ℕ) where
   pub words_report : (words : List (List ℕ)) (report : List Line) → takes hipsleek_app words ≡ false → report ≡ RefusedWords ∷ [] → IsReport known before now (job_named words) report
   words_report words report refused lines =
       subst (λ (o : Option Job). IsReport known before now o report) (sym (unnamed words refused)) (no_job report lines)
+
+-- ---- replies to sources
+
+-- the reply to a source whose definitions have no fault
+pub on_source : (Is : Resolved → Reply → Type 0) (bytes : List ℕ) (r : Resolved) → IsFoundedSource bytes r → (reply : Reply) → Is r reply → IsSourceReply Is bytes reply
+on_source Is bytes r is (FileFault name) right = record { tree = is.tree; resolved = r; read = is.read; is = right }
+on_source Is bytes r is (Refused cause) right = inr (record { tree = is.tree; resolved = r; read = is.read; is = right })
+on_source Is bytes r is (Answered lines) right = record { tree = is.tree; resolved = r; read = is.read; is = right }
+
+-- the lines of a command that serves all sources, or what keeps the source from having them
+pub staged_source : (HasOwnFault : Resolved → Refusal → Type 0) (IsAnswer : Resolved → List Line → Type 0) (HasCause : CoreError → Type 0) (bytes : List ℕ) (r : Resolved)
+    → IsFoundedSource bytes r → ((cause : Refusal) → HasCause (error.Refused cause) → HasOwnFault r cause) → (lines : Result (List Line) CoreError) → IfOk lines (IsAnswer r)
+    → IfErr lines HasCause → (reply : Reply) → IsReplyOf lines reply → IsSourceReply (IsStagedReply HasFoundingFault HasOwnFault IsAnswer) bytes reply
+staged_source HasOwnFault IsAnswer HasCause bytes r is tells (Ok lines) answer cause reply same =
+    subst (IsSourceReply (IsStagedReply HasFoundingFault HasOwnFault IsAnswer) bytes) (sym same)
+    (on_source (IsStagedReply HasFoundingFault HasOwnFault IsAnswer) bytes r is (Answered lines) (is.faultless, answer))
+staged_source HasOwnFault IsAnswer HasCause bytes r is tells (Err (error.Refused refusal)) answer cause reply same =
+    subst (IsSourceReply (IsStagedReply HasFoundingFault HasOwnFault IsAnswer) bytes) (sym same)
+    (on_source (IsStagedReply HasFoundingFault HasOwnFault IsAnswer) bytes r is (Refused refusal) (inr (is.faultless, tells refusal cause)))
+staged_source HasOwnFault IsAnswer HasCause bytes r is tells (Err error.Memory) answer cause reply same = absurd same

@@ -1,20 +1,17 @@
 -- What the lines of a source that is served need.
-use Rattle.std.proofs.Common.{◌≡◌, ℕ, suc, ◌+◌, ◌≤◌, ◌^◌, Bool, true, false, ◌&&◌, List, [], ◌∷◌, ◌++◌, length, refl, sym, ap, subst, arith}
-use Rattle.std.specs.List.{All}
-use Rattle.hs_heap.specs.declared.definitions.Lemma.{Lemma}
+use Rattle.std.proofs.Common.{◌≡◌, ℕ, suc, ◌+◌, ◌≤◌, ◌^◌, Bool, true, false, ◌&&◌, List, [], ◌∷◌, ◌++◌, length, refl, ap, arith}
 use Rattle.hs_heap.specs.declared.definitions.PredDef.{PredDef}
 use Rattle.hs_cli.specs.declared.jobs.Options.{Options}
 use Rattle.hs_cli.specs.Job.{AreInRange}
 use Rattle.hs_norm.specs.declared.resolved.Resolved.{Resolved}
 use Rattle.hs_norm_sound.specs.Laws.{DefinitionsAreSound, GoalsAreWellFormed, GoalsHaveDisjuncts}
-use Rattle.hs_tree.specs.declared.source.Source.{Source}
-use Rattle.hs_source.specs.Resolved.{IsResolved}
 use Rattle.hs_print.specs.declared.line.Line.{Line}
 use Rattle.hs_search.specs.Answer.{LimitsFit}
 use Rattle.hs_tool.specs.Served.{is_nil, is_served}
 use Rattle.hs_pred_lines.specs.Lines.{AreLines, ArePredicateLines, first_unshown}
 use Rattle.hs_entail_lines.specs.Laws.{EntailmentsAreGoals}
 use Rattle.hs_entail_lines.specs.Lines.{AreEntailmentLines}
+use Rattle.hs_tool.specs.Sources.{IsFoundedSource}
 use Rattle.hs_tool.specs.Sleek.{limits_of, summary_of, IsNormalForm, IsSleekReport}
 
 -- a line for each predicate
@@ -43,14 +40,14 @@ limits_fit options range = record {
   atoms = let most = range.atoms.1 in omega (arith, most);
 }
 
-pub normal_form : DefinitionsAreSound → GoalsAreWellFormed → GoalsHaveDisjuncts → EntailmentsAreGoals → (bytes : List ℕ) (tree : Source) (r : Resolved)
-    → IsResolved bytes tree r → length r.pred_names ≡ length r.defs.preds → length r.entailments ≤ 2 ^ 20 → length r.defs.preds ≤ 2 ^ 20 → IsNormalForm r
-normal_form sound formed filled goals bytes tree r is named few few_preds = record {
-  sound = sound tree r is.normal;
-  goals = λ k d low. goals r.defs _ (formed tree r is.normal k d low) (filled 64 bytes is.tokens tree r is.spelled is.normal k d low).1;
-  named = named;
-  few = few;
-  few_preds = few_preds;
+pub normal_form : DefinitionsAreSound → GoalsAreWellFormed → GoalsHaveDisjuncts → EntailmentsAreGoals → (bytes : List ℕ) (r : Resolved)
+    → length bytes ≤ 2 ^ 20 → IsFoundedSource bytes r → IsNormalForm r
+normal_form sound formed filled goals bytes r low is = record {
+  sound = sound is.tree r is.read.normal;
+  goals = λ k d less. goals r.defs _ (formed is.tree r is.read.normal k d less) (filled 64 bytes is.read.tokens is.tree r is.read.spelled is.read.normal k d less).1;
+  named = is.named;
+  few = let few = is.few in omega (arith, few, low);
+  few_preds = let few = is.few_preds in omega (arith, few, low);
 }
 
 -- the report of these lines

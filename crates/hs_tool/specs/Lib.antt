@@ -3,5 +3,7 @@ pub mod Output
 pub mod Reply
 pub mod Served
 pub mod Sleek
+pub mod Sources
+pub mod Programs
 pub mod Run
 pub mod Laws

@@ -8,6 +8,8 @@ use Rattle.hs_print.specs.declared.line.Line.{Line}
 use Rattle.hs_print.specs.declared.line.Line.TheVariants as line
 use Rattle.hs_print.specs.declared.refusal.Refusal.{Refusal}
 use Rattle.hs_print.specs.declared.refusal.Refusal.TheVariants.{FileTooLarge, NotBuilt}
+use Rattle.hs_tool.specs.declared.fetching.Fetched.{Fetched}
+use Rattle.hs_tool.specs.declared.fetching.Fetched.TheVariants.{Bytes, Missing}
 use Rattle.hs_tool.specs.declared.reply.Reply.{Reply}
 use Rattle.hs_tool.specs.declared.reply.Reply.TheVariants.{FileFault, Refused, Answered}
 
@@ -49,6 +51,17 @@ IsFileReply known rose limit name Are (Refused cause) =
     ((cause ≡ FileTooLarge) × IsTooLarge known limit name) ⊎ HasBytes known limit name (λ bytes. Are bytes (Refused cause))
 IsFileReply known rose limit name Are (Answered lines) = HasBytes known limit name (λ bytes. Are bytes (Answered lines))
 
+-- the reply of a job that needs a file which cannot be had (rose) or is too large
+abbrev pub Lacks : Known → Type 0 → ℕ → List ℕ → Reply → Type 0
+Lacks known rose limit name (FileFault other) = (other ≡ name) × rose
+Lacks known rose limit name (Refused cause) = (cause ≡ FileTooLarge) × IsTooLarge known limit name
+Lacks known rose limit name (Answered lines) = ⊥
+
+-- what comes of the fetch of a file: its bytes within the limit, or a reply
+abbrev pub IsFetched : Known → Type 0 → ℕ → List ℕ → Fetched → Type 0
+IsFetched known rose limit name (Bytes bytes) = IfSome known (λ files. bytes.items ≡ bytes_of files name) × (length bytes.items ≤ limit)
+IsFetched known rose limit name (Missing reply) = Lacks known rose limit name reply
+
 -- ---- sources
 
 -- the bytes are a source of whose normal form this is true
@@ -76,3 +89,10 @@ IsFormReply HasFault is_served IsAnswer r (Refused cause) =
     HasFault r cause ⊎ (IsFaultless HasFault r × (is_served r ≡ false) × (cause ≡ NotBuilt))
 IsFormReply HasFault is_served IsAnswer r (Answered lines) =
     IsFaultless HasFault r × (is_served r ≡ true) × IsAnswer r lines
+
+-- the reply of a command that serves all sources: one is refused for a fault that a later stage finds, then for one of
+-- the stages of the command, or else it is answered
+abbrev pub IsStagedReply : (HasFault HasOwnFault : Resolved → Refusal → Type 0) → (Resolved → List Line → Type 0) → Resolved → Reply → Type 0
+IsStagedReply HasFault HasOwnFault IsAnswer r (FileFault name) = ⊥
+IsStagedReply HasFault HasOwnFault IsAnswer r (Refused cause) = HasFault r cause ⊎ (IsFaultless HasFault r × HasOwnFault r cause)
+IsStagedReply HasFault HasOwnFault IsAnswer r (Answered lines) = IsFaultless HasFault r × IsAnswer r lines

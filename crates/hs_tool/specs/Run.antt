@@ -6,7 +6,7 @@ use Rattle.hs_io.specs.Faults.{Rose}
 use Rattle.hs_cli.specs.Command.{hipsleek_app}
 use Rattle.hs_cli.specs.Job.{job_of}
 use Rattle.hs_cli.specs.declared.jobs.Job.{Job}
-use Rattle.hs_cli.specs.declared.jobs.Job.TheVariants.{Sleek}
+use Rattle.hs_cli.specs.declared.jobs.Job.TheVariants.{Sleek, Core, Run}
 use Rattle.hs_print.specs.Line.{text_of}
 use Rattle.hs_print.specs.declared.line.Line.{Line}
 use Rattle.hs_print.specs.declared.line.Line.TheVariants.{RefusedWords}
@@ -16,8 +16,9 @@ use Rattle.hs_tool.specs.declared.reply.Reply.{Reply}
 use Rattle.hs_tool.specs.declared.reply.Reply.TheVariants.{Refused}
 use Rattle.hs_tool.specs.Reply.{Known, IsFileReply, IsSourceReply, Says}
 use Rattle.hs_tool.specs.Sleek.{IsSleekReply}
+use Rattle.hs_tool.specs.Programs.{IsCoreReply, IsRunReply}
 
--- the most bytes that a source may have
+-- the most bytes that a source or a heap text may have
 abbrev pub source_limit : ℕ
 source_limit = 2 ^ 20
 
@@ -28,6 +29,10 @@ job_named words = if takes hipsleek_app words then job_of (subcommand_of hipslee
 -- the reply to a job, where the count of files' faults goes from before to now: a case for each command
 abbrev pub IsReply : Known → (before now : ℕ) → Job → Reply → Type 0
 IsReply known before now (Sleek name options) = IsFileReply known (Rose before now) source_limit name (IsSourceReply (IsSleekReply options))
+IsReply known before now (Core name) = IsFileReply known (Rose before now) source_limit name (IsSourceReply IsCoreReply)
+IsReply known before now (Run file method heap options) =
+    IsFileReply known (Rose before now) source_limit file (λ source. IsFileReply known (Rose before now) source_limit heap
+    (λ text. IsSourceReply (IsRunReply method text options.steps) source))
 
 -- the report for a job, or for words that name none
 unfoldable pub IsReport : Known → (before now : ℕ) → Option Job → List Line → Type 0

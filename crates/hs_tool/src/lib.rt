@@ -2,19 +2,23 @@
 //!
 //! [`run_tool`] writes one report, which the words and the files determine, and answers its status. A printed
 //! `valid` means that every stack and heap that satisfies the antecedent splits into a part that satisfies
-//! the consequent and a rest that satisfies the printed residue. A refusal is that of the first fault: the words,
-//! the file, the lexer, the reader, the normal form, the definitions where they are not founded, and then what is not
-//! served yet.
+//! the consequent and a rest that satisfies the printed residue. A printed core program is the translation of the
+//! source, and the line of a run tells how the machine of that program ends. A refusal is that of the first fault: the
+//! words, the files, the lexer, the reader, the normal form, the definitions where they are not founded, then for
+//! `sleek` what is not served yet, and for `core` and `run` the translation, the heap text and the method.
 #![tactic(auto)]
 
+mod fetching;
 mod laws;
 mod output;
+mod programs;
 mod reply;
 mod sleek;
+mod sources;
 mod statuses;
 mod tool;
 
-/// The most bytes that a source may have.
+/// The most bytes that a source or a heap text may have.
 pub const SOURCE_LIMIT: u64 = 1 << 20;
 
 pub use hs_cli::{Job, Options, WordsError};

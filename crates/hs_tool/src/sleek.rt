@@ -10,16 +10,16 @@ ghost use Rattle.hs_tool.specs.Sleek as spec;
 ghost use Rattle.hs_tool.specs.Sleek.{IsNormalForm, IsSleekReport, IsSleekReply};
 
 use crate::reply::Reply;
+use crate::sources::founded_source;
 use hs_cli::Options;
 use hs_entail_lines::{entailment_lines, entailments_are_goals};
-use hs_founding::founding_fault;
 use hs_goal::Limits;
 use hs_norm::Resolved;
 use hs_norm_sound::{definitions_are_sound, goals_are_well_formed, goals_have_disjuncts};
 use hs_pred_lines::predicate_lines;
 use hs_print::{Line, Refusal};
 use hs_pure::NoMemory;
-use hs_source::{SourceError, resolve};
+use hs_source::SourceError;
 use sqlite_items::Items;
 use std::alloc::Global;
 
@@ -96,7 +96,7 @@ fn sleek(alloc: Global, resolved: &Resolved, options: Options) -> Result<Items<L
 }
 
 // The reply to a source whose definitions have no fault.
-fn faultless_reply(alloc: Global, resolved: &Resolved, options: Options) -> Result<Reply, NoMemory>
+fn form_reply(alloc: Global, resolved: &Resolved, options: Options) -> Result<Reply, NoMemory>
     requires normal { IsNormalForm resolved.now }
     requires range { AreInRange options }
     requires faultless { IsFaultless HasFoundingFault resolved.now }
@@ -106,18 +106,6 @@ fn faultless_reply(alloc: Global, resolved: &Resolved, options: Options) -> Resu
         return Ok(Reply::Refused(Refusal::NotBuilt));
     }
     Ok(Reply::Answered(sleek(alloc, resolved, options)?))
-}
-
-// The reply to a source with its normal form.
-fn form_reply(alloc: Global, resolved: &Resolved, options: Options) -> Result<Reply, NoMemory>
-    requires normal { IsNormalForm resolved.now }
-    requires range { AreInRange options }
-    ensures { IfOk result (IsSleekReply options resolved.now) }
-{
-    match founding_fault(alloc, resolved)? {
-        Some(cause) => Ok(Reply::Refused(cause)),
-        None => faultless_reply(alloc, resolved, options),
-    }
 }
 
 /// The reply to a source of at most 2^20 bytes.
@@ -130,8 +118,8 @@ pub fn source_reply(alloc: Global, bytes: &[u8], options: Options) -> Result<Rep
     goals_are_well_formed();
     goals_have_disjuncts();
     entailments_are_goals();
-    match resolve(alloc, bytes) {
-        Ok((_, resolved)) => form_reply(alloc, &resolved, options),
+    match founded_source(alloc, bytes) {
+        Ok(resolved) => form_reply(alloc, &resolved, options),
         Err(SourceError::Refused(cause)) => Ok(Reply::Refused(cause)),
         Err(SourceError::Memory) => Err(NoMemory),
     }

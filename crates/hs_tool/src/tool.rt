@@ -1,21 +1,24 @@
 //! The whole job.
 
-ghost use Rattle.std.specs.Prelude.{IfOk, map};
+ghost use Rattle.std.specs.Prelude.{◌≤◌, IfOk, length, map};
 ghost use Rattle.std.specs.String.{string_bytes};
 ghost use Rattle.hs_io.specs.Faults.{Rose};
 ghost use Rattle.hs_cli.specs.Job.{AreInRange, IsInRange};
 ghost use Rattle.hs_tool.specs.Reply.{IsFileReply, IsSourceReply};
 ghost use Rattle.hs_tool.specs.Sleek.{IsSleekReply};
+ghost use Rattle.hs_tool.specs.Programs.{IsCoreReply, IsRunReply};
 ghost use Rattle.hs_tool.specs.Run.{source_limit, job_named, IsReply, IsReport, Ends};
 
+use crate::Line;
+use crate::fetching::{Fetched, fetch};
 use crate::laws::statuses_have_causes;
 use crate::output::write_all;
+use crate::programs::{core_reply, run_reply};
 use crate::reply::{Reply, alone, lines};
 use crate::sleek::source_reply;
 use crate::statuses::status;
-use crate::{Line, Refusal, SOURCE_LIMIT};
 use hs_cli::{Job, Options, WordsError, job};
-use hs_io::{FetchError, Files, PutError, Sink};
+use hs_io::{Files, PutError, Sink};
 use hs_print::text;
 use hs_pure::NoMemory;
 use hs_text::Text;
@@ -24,7 +27,7 @@ use std::alloc::Global;
 use std::thread::Threads;
 
 /// Does what the words of the command line ask for, writes the report and answers the status: 0 where every
-/// verdict is good, 1 where one is not, 2 where the source is refused, 3 where the words name no job, 4 where
+/// verdict is good, 1 where one is not, 2 where a file is refused, 3 where the words name no job, 4 where
 /// a file could not be had, 5 where the sink failed, and 6 for want of memory.
 pub fn run_tool<H, F, K, W>(
     rt: &H,
@@ -82,6 +85,10 @@ fn job_reply<F: Files>(alloc: Global, job: Job, files: &mut F) -> Result<Reply, 
 {
     match job {
         Job::Sleek(name, options) => sleek_file(alloc, name, options, files),
+        Job::Core(name) => core_file(alloc, name, files),
+        Job::Run(file, method, heap, options) => {
+            run_files(alloc, file, &method, heap, options.steps, files)
+        }
     }
 }
 
@@ -95,10 +102,55 @@ fn sleek_file<F: Files>(
     requires { AreInRange options }
     ensures { IfOk result (IsFileReply (F.texts files.old) (Rose (F.faults files.old) (F.faults files.new)) source_limit name (IsSourceReply (IsSleekReply options))) }
 {
-    match files.fetch(alloc, name.as_str(), SOURCE_LIMIT) {
-        Ok(source) => source_reply(alloc, &source, options),
-        Err(FetchError::Failed) => Ok(Reply::FileFault(name)),
-        Err(FetchError::TooLarge(_)) => Ok(Reply::Refused(Refusal::FileTooLarge)),
-        Err(FetchError::Memory) => Err(NoMemory),
+    match fetch(alloc, name, files)? {
+        Fetched::Bytes(source) => source_reply(alloc, &source, options),
+        Fetched::Missing(reply) => Ok(reply),
+    }
+}
+
+// The reply to a file whose core program is printed.
+fn core_file<F: Files>(alloc: Global, name: Text, files: &mut F) -> Result<Reply, NoMemory>
+    ensures { IfOk result (IsFileReply (F.texts files.old) (Rose (F.faults files.old) (F.faults files.new)) source_limit name (IsSourceReply IsCoreReply)) }
+{
+    match fetch(alloc, name, files)? {
+        Fetched::Bytes(source) => core_reply(alloc, &source),
+        Fetched::Missing(reply) => Ok(reply),
+    }
+}
+
+// The reply to a file whose method is run on the heap text of another.
+fn run_files<F: Files>(
+    alloc: Global,
+    file: Text,
+    method: &Text,
+    heap: Text,
+    steps: u64,
+    files: &mut F,
+) -> Result<Reply, NoMemory>
+    ensures { IfOk result (IsFileReply (F.texts files.old) (Rose (F.faults files.old) (F.faults files.new)) source_limit file (λ source.
+        IsFileReply (F.texts files.old) (Rose (F.faults files.old) (F.faults files.new)) source_limit heap (λ text. IsSourceReply (IsRunReply method.now text steps) source))) }
+{
+    match fetch(alloc, file, files)? {
+        Fetched::Bytes(source) => run_source(alloc, &source, method, heap, steps, files),
+        Fetched::Missing(reply) => Ok(reply),
+    }
+}
+
+// The reply to a source whose method is run on the heap text of a file.
+fn run_source<F: Files>(
+    alloc: Global,
+    source: &[u8],
+    method: &Text,
+    heap: Text,
+    steps: u64,
+    files: &mut F,
+) -> Result<Reply, NoMemory>
+    requires few { length source.now ≤ source_limit }
+    ensures reply { IfOk result (IsFileReply (F.texts files.old) (Rose (F.faults files.old) (F.faults files.new)) source_limit heap (λ text. IsSourceReply (IsRunReply method.now text steps) source.now)) }
+    ensures later { F.faults files.old ≤ F.faults files.new }
+{
+    match fetch(alloc, heap, files)? {
+        Fetched::Bytes(text) => run_reply(alloc, source, method, &text, steps),
+        Fetched::Missing(reply) => Ok(reply),
     }
 }

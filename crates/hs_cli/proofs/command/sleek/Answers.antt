@@ -1,27 +1,10 @@
-use Rattle.std.proofs.Common.{◌≡◌, ◌∙◌, ◌||◌, ℤ, Some, false, codes, ap, ap₂, pos, subst}
+use Rattle.std.proofs.Common.{◌≡◌, ◌∙◌, codes, ap, pos}
 use Rattle.std.proofs.lemmas.Result.{IfOk-weaker}
-use Rattle.clap.specs.Words.{AddsArg, NarrowsTo, App, Rule, app_of, new_app, rule_of, with_rule}
-use Rattle.clap.specs.declared.builder.Arg.{Arg}
-use Rattle.clap.specs.declared.builder.ValueParser.{ValueParser}
+use Rattle.clap.specs.Words.{App, new_app}
 use Rattle.clap.specs.declared.builder.ValueParser.TheVariants.{Signed, Unsigned}
-use Rattle.clap.specs.declared.builder.command.Command.{Command}
-use Rattle.clap.specs.declared.builder.command.Command.TheViews.{out-Command as fields_of}
 use Rattle.hs_cli.specs.Command.{option_rule}
+use Rattle.hs_cli.proofs.Making.{IsMade, added, narrows}
 use Rattle.hs_cli.proofs.command.sleek.Goals as goal
-
--- a command that a parse reads as x, with no global argument
-abbrev IsMade : Command → App → Type 0
-IsMade c x = (app_of c ≡ x) × ((fields_of c).has_globals ≡ false)
-
-added : (old new : Command) (a : Arg) (x : App) (r : Rule) → IsMade old x → AddsArg old a new → rule_of a ≡ r → a.global ≡ false → IsMade new (with_rule x r)
-added old new a x r made adds is local =
-    (adds.shape local ∙ ap₂ with_rule made.0 is, adds.globals ∙ ap₂ (λ b d. b || d) made.1 local)
-
--- a range of known ends, on a parser that is known
-narrows : (p q : ValueParser) (low a high b : ℤ) (r : ValueParser) → p ≡ q → low ≡ a → high ≡ b → NarrowsTo p (Some low) (Some high) r → NarrowsTo q (Some a) (Some b) r
-narrows p q low a high b r parser least most h =
-    subst (λ x. NarrowsTo x (Some a) (Some b) r) parser
-    (subst (λ x. NarrowsTo p (Some x) (Some b) r) least (subst (λ x. NarrowsTo p (Some low) (Some x) r) most h))
 
 pub returns : goal.returns
 returns c =
@@ -36,7 +19,7 @@ returns c =
     let residues : c.range-5.result ≡ Signed (pos 1) (pos 16) =
     narrows _ _ _ _ _ _ _ c.value_parser-5.ensures c.new-5.ensures.start c.new-5.ensures.end c.range-5.ensures in
     let start : IsMade c.new-6.result (new_app (codes "sleek")) = (c.new-6.ensures.app, c.new-6.ensures.local) in
-    let with_file = added _ _ _ _ _ start c.in_ok-arg.ensures c.file.ensures.0 c.file.ensures.1 in
+    let with_file = added _ _ _ _ _ start c.in_ok-arg.ensures c.positional.ensures.0 c.positional.ensures.1 in
     let with_rank = added _ _ _ _ _ with_file c.in_ok-arg-2.ensures
     (c.option-rank.ensures.0 ∙ ap (option_rule (codes "rank")) rank) c.option-rank.ensures.1 in
     let with_goals = added _ _ _ _ _ with_rank c.in_ok-arg-3.ensures
