@@ -50,6 +50,36 @@ fn a_failing_fetch_is_a_file_fault(rt: HostRuntime) -> Result<(), Fail> {
 }
 
 #[test]
+fn a_failing_second_fetch_is_a_fault_of_that_file(rt: HostRuntime) -> Result<(), Fail> {
+    let alloc = rt.alloc();
+    let source = (
+        String::from_str(alloc, "a")?,
+        b"method f() requires".to_vec(alloc)?,
+    );
+    let heap = (
+        String::from_str(alloc, "h")?,
+        b"heap 1\nargs\n".to_vec(alloc)?,
+    );
+    let mut files = MemFiles::new(vec![in alloc; source, heap]?, vec![in alloc; 2]?);
+    let mut sink = SureSink::new(alloc);
+    let mut words = Vec::new(alloc);
+    for word in ["run", "a", "f", "h"] {
+        words.push(String::from_str(alloc, word)?)?;
+    }
+    let status = run_tool(
+        &rt,
+        alloc,
+        &words,
+        &mut files,
+        &mut sink,
+        &|_number: u32| {},
+    );
+    assert_eq!(rt; status, 4);
+    assert_eq!(rt; sink.written(), b"fault: file h\n".as_slice());
+    Ok(())
+}
+
+#[test]
 fn a_failing_put_leaves_the_front(rt: HostRuntime) -> Result<(), Fail> {
     let alloc = rt.alloc();
     let mut files = SureFiles::new(one_file(alloc, b"entail emp |- emp;")?);
