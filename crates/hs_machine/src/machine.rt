@@ -4,6 +4,7 @@ ghost use Rattle.std.specs.Prelude.{◌≡◌, ◌∷◌, [], length, IfOk};
 ghost use Rattle.hs_core.specs.Machine.{called};
 ghost use Rattle.hs_machine.specs.Read.{frames_of, IsReady, CanBegin, IsTurn, IsGiven, CanGive};
 
+use crate::arena::Arena;
 use crate::callers::{call, callee, instruction, method, resume};
 use crate::frame::Frame;
 use crate::simple::{Turn, simple};
@@ -18,7 +19,7 @@ use std::alloc::Global;
 pub struct Machine {
     pub frame: Frame,
     pub callers: Items<Frame>,
-    pub heap: Heap,
+    pub heap: Arena,
 }
 
 impl Machine {
@@ -39,7 +40,7 @@ impl Machine {
         Ok(Machine {
             frame,
             callers: Items::new(alloc),
-            heap,
+            heap: Arena::new(heap),
         })
     }
 

@@ -59,22 +59,22 @@ pub fn run(
             Turn::Returned(result, refs) => {
                 return Ok(RunEnd {
                     answer: RunAnswer::Returned(result),
-                    heap: machine.heap,
+                    heap: machine.heap.into_heap(),
                     done: done + 1,
                     refs,
                 });
             }
             Turn::Fault(place) => {
                 let answer = RunAnswer::Fault(machine.frame.method, machine.frame.point, place);
-                return Ok(stopped(alloc, answer, machine.heap, done));
+                return Ok(stopped(alloc, answer, machine.heap.into_heap(), done));
             }
             Turn::Wide => {
                 let answer = RunAnswer::Wide(machine.frame.method, machine.frame.point);
-                return Ok(stopped(alloc, answer, machine.heap, done));
+                return Ok(stopped(alloc, answer, machine.heap.into_heap(), done));
             }
         }
     }
-    Ok(stopped(alloc, RunAnswer::Running, machine.heap, steps))
+    Ok(stopped(alloc, RunAnswer::Running, machine.heap.into_heap(), steps))
 }
 
 fn stopped(alloc: Global, answer: RunAnswer, heap: Heap, done: u64) -> RunEnd

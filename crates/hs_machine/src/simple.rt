@@ -8,9 +8,10 @@ ghost use Rattle.hs_core.specs.Sound.{IsUpTo};
 ghost use Rattle.hs_core.specs.declared.instr.Instr.TheVariants as instr_of;
 ghost use Rattle.hs_machine.specs.Read.{FindsNode, NodesHave, TermsAreSlots, HasRoom, CanDo, Did};
 
+use crate::arena::Arena;
 use crate::frame::Frame;
 use hs_core::Instr;
-use hs_heap::{Heap, HeapNode};
+use hs_heap::HeapNode;
 use hs_pure::{Lin, NoMemory, Pure};
 use sqlite_items::Items;
 use std::alloc::Global;
@@ -25,7 +26,7 @@ pub enum Turn {
 }
 
 // The node of the data type at the place.
-fn node_at(heap: &Heap, place: i128, kind: u32) -> Option<&HeapNode>
+fn node_at(heap: &Arena, place: i128, kind: u32) -> Option<&HeapNode>
     ensures there { IfSome result (λ n. FindsNode heap.now place kind n.now) }
     ensures missing { IfNone result (HasNode heap.now place kind → ⊥) }
 {
@@ -51,7 +52,7 @@ fn changed(alloc: Global, node: &HeapNode, field: u32, value: i128) -> Result<He
     Ok(node)
 }
 
-fn assign(frame: &mut Frame, heap: &Heap, to: u32, term: &Lin) -> Turn
+fn assign(frame: &mut Frame, heap: &Arena, to: u32, term: &Lin) -> Turn
     requires room { HasRoom frame.old }
     requires slots { IsUpTo (length frame.old.slots) to × TermsAreSlots (length frame.old.slots) term.now.terms }
     ensures { Did (instr_of.Assign to term.now) frame.old heap.now result frame.new heap.now }
@@ -68,7 +69,7 @@ fn assign(frame: &mut Frame, heap: &Heap, to: u32, term: &Lin) -> Turn
 fn create(
     alloc: Global,
     frame: &mut Frame,
-    heap: &mut Heap,
+    heap: &mut Arena,
     to: u32,
     kind: u32,
     args: &[u32],
@@ -84,7 +85,7 @@ fn create(
     Ok(Turn::Done)
 }
 
-fn read(frame: &mut Frame, heap: &Heap, to: u32, at: u32, kind: u32, field: u32) -> Turn
+fn read(frame: &mut Frame, heap: &Arena, to: u32, at: u32, kind: u32, field: u32) -> Turn
     requires room { HasRoom frame.old }
     requires slots { IsUpTo (length frame.old.slots) to × IsUpTo (length frame.old.slots) at }
     requires fields { NodesHave heap.now kind field }
@@ -101,7 +102,7 @@ fn read(frame: &mut Frame, heap: &Heap, to: u32, at: u32, kind: u32, field: u32)
 fn write(
     alloc: Global,
     frame: &mut Frame,
-    heap: &mut Heap,
+    heap: &mut Arena,
     at: u32,
     kind: u32,
     field: u32,
@@ -127,7 +128,7 @@ fn write(
 fn branch(
     alloc: Global,
     frame: &mut Frame,
-    heap: &Heap,
+    heap: &Arena,
     condition: &Pure,
     other: u32,
 ) -> Result<Turn, NoMemory>
@@ -145,7 +146,7 @@ fn branch(
     }
 }
 
-fn jump(frame: &mut Frame, heap: &Heap, target: u32) -> Turn
+fn jump(frame: &mut Frame, heap: &Arena, target: u32) -> Turn
     ensures { Did (instr_of.Jump target) frame.old heap.now result frame.new heap.now }
 {
     frame.point = target;
@@ -157,7 +158,7 @@ pub fn simple(
     alloc: Global,
     instr: &Instr,
     frame: &mut Frame,
-    heap: &mut Heap,
+    heap: &mut Arena,
 ) -> Result<Turn, NoMemory>
     requires room { HasRoom frame.old }
     requires can { CanDo instr.now (length frame.old.slots) heap.old }

@@ -1,4 +1,5 @@
 use Rattle.std.proofs.Common.{◌≡◌, ℕ, [], ◌∷◌, sym, subst, refl, arith, add-one}
+use Rattle.hs_heap.specs.Heap.{Heap}
 use Rattle.hs_core.specs.Machine.{Run, RunnerStep, called}
 use Rattle.hs_core.proofs.Runs.{run_more}
 use Rattle.hs_machine.specs.declared.simple.Turn.{Turn}
@@ -30,4 +31,5 @@ returns c =
     let all : c.loop-done.done ≡ c.args.steps = omega arith in
     let R : ℕ → Type 0 = λ k. Run (RunnerStep c.args.program.now) k (called c.args.number c.args.args.now ∷ []) c.args.heap (frames_of c.loop-done.machine) c.loop-done.machine.heap in
     let E : RunEnd → Type 0 = λ e. IsEnd c.args.program.now c.args.number c.args.args.now c.args.heap c.args.steps e in
-    subst E (sym c.stopped-2.ensures) (refl, (frames_of m, subst R all c.loop-done.invariant.run), refl)
+    let K : Heap → Type 0 = λ k. Run (RunnerStep c.args.program.now) c.args.steps (called c.args.number c.args.args.now ∷ []) c.args.heap (frames_of c.loop-done.machine) k in
+    subst E (sym c.stopped-2.ensures) (refl, (frames_of m, subst K (sym c.into_heap-2.ensures) (subst R all c.loop-done.invariant.run)), refl)
