@@ -1,0 +1,8 @@
+mod Following
+mod Groups
+mod Inside
+mod Named
+mod Rises
+mod Standing
+mod Tokens
+mod Trees
