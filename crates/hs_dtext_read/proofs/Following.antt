@@ -1,5 +1,5 @@
 -- What one more line does to a reading.
-use Rattle.std.proofs.Common.{◌≡◌, ℕ, ◌+◌, Bool, true, false, if◌then◌else◌, List, [], ◌∷◌, Some, Result, Ok, Err, refl, sym, ap, ◌∙◌, subst}
+use Rattle.std.proofs.Common.{◌≡◌, ℕ, ◌+◌, true, false, if◌then◌else◌, List, [], ◌∷◌, Some, Result, Ok, Err, refl, ap, ◌∙◌, subst}
 use Rattle.hs_heap.specs.declared.definitions.Defs.{Defs}
 use Rattle.hs_node.specs.declared.derivation.Derivation.{Derivation}
 use Rattle.hs_line.specs.declared.fault.Fault.TheVariants as fault

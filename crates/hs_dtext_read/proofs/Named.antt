@@ -1,5 +1,5 @@
 -- What stops the normal form of a formula.
-use Rattle.std.proofs.Common.{◌≡◌, ◌⊎◌, Result, Ok, Err, sym, ap, inl, inr}
+use Rattle.std.proofs.Common.{Result, Ok, Err, sym, ap, inl, inr}
 use Rattle.hs_norm_formula.specs.declared.by_number.NormError.{NormError}
 use Rattle.hs_norm_formula.specs.declared.by_number.NormError.TheVariants.{Unknown, Twice, Kind, Arity, TooMany, Shape, Memory}
 use Rattle.hs_norm_formula.specs.Numbered.{Gives as IsBuilt}

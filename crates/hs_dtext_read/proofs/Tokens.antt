@@ -1,5 +1,5 @@
 -- What the lexer answers is what the definition says.
-use Rattle.std.proofs.Common.{◌≡◌, ◌≢◌, ℕ, Bool, true, false, if◌then◌else◌, List, Ok, Err, refl, sym, ap, ◌∙◌}
+use Rattle.std.proofs.Common.{◌≡◌, ◌≢◌, ℕ, true, false, if◌then◌else◌, List, Err, refl, ap, ◌∙◌}
 use Rattle.std.specs.Str.{is_utf8, IsUtf8}
 use Rattle.std.proofs.lemmas.Bool.{false_from_ne_true}
 use Rattle.std.proofs.lemmas.Str.{IsUtf8-from_is_utf8, is_utf8-from_IsUtf8}
@@ -9,7 +9,7 @@ use Rattle.hs_lex.specs.declared.token.Token.{Token}
 use Rattle.hs_lex.specs.Scan.{tokens_from}
 use Rattle.hs_lex.specs.Tokens.{HasTokens, HasFault, HasLexCause}
 use Rattle.hs_lex.proofs.Relation.{Lexes-scanned, Stops-scanned}
-use Rattle.hs_dtext.specs.Formulas.{greatest, lexed, lex_fault, tokens_by, without_comment, tokens}
+use Rattle.hs_dtext.specs.Formulas.{greatest, lex_fault, tokens_by, without_comment, tokens}
 
 pub lexed_found : (text : List ℕ) (ts : List Token) → HasTokens greatest text ts → tokens text ≡ without_comment text ts
 unfolding tokens

@@ -6,9 +6,9 @@ use Rattle.hs_goal.specs.declared.goal.Goal.{Goal}
 use Rattle.hs_goal.specs.declared.rule.ERule.{ERule}
 use Rattle.hs_rules.specs.Residues.{residue_of}
 use Rattle.hs_rules.specs.Rules.{Judgement}
-use Rattle.hs_erule.specs.declared.answer.Reason.TheVariants as reason
-use Rattle.hs_erule.specs.declared.answer.NodeAnswer.{NodeAnswer}
-use Rattle.hs_erule.specs.declared.answer.NodeAnswer.TheVariants as answer
+use Rattle.hs_check.specs.declared.verdict.Reason.TheVariants as reason
+use Rattle.hs_check.specs.declared.verdict.NodeAnswer.{NodeAnswer}
+use Rattle.hs_check.specs.declared.verdict.NodeAnswer.TheVariants as answer
 use Rattle.hs_erule.specs.Judged.{Premises, goals_of, residues_of, judgements_of, Passes, IsAnswerTo, IsJudged}
 
 -- the goals and the residues of judgements

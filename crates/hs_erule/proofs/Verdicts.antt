@@ -11,8 +11,8 @@ use Rattle.hs_goal.specs.declared.goal.Goal.{Goal}
 use Rattle.hs_goal.specs.declared.rule.ERule.{ERule}
 use Rattle.hs_goal.specs.declared.rule.Question.{Question}
 use Rattle.hs_rules.specs.Questions.{question_of, IsTrueQuestion, IsAnswered}
-use Rattle.hs_erule.specs.declared.answer.NodeAnswer.{NodeAnswer}
-use Rattle.hs_erule.specs.declared.answer.NodeAnswer.TheVariants as answer
+use Rattle.hs_check.specs.declared.verdict.NodeAnswer.{NodeAnswer}
+use Rattle.hs_check.specs.declared.verdict.NodeAnswer.TheVariants as answer
 use Rattle.hs_erule.specs.Judged.{asked_of, verdict_of, OfQuestion, TakesMoreAtoms, IsWideQuestion, IsVerdict, IsDecidedVerdict, IsAnswerTo, IsDecidedTo}
 
 -- what the decision procedure answers is a verdict

@@ -16,10 +16,10 @@ use Rattle.hs_rules.specs.Subgoals.{subgoals_of}
 use Rattle.hs_rules.specs.Residues.{residue_of}
 use Rattle.hs_rules.specs.Questions.{question_of, IsTrueQuestion, IsAnswered}
 use Rattle.hs_rules.specs.Rules.{Applies, Judgement, IsRightStep, TakesTooMany}
-use Rattle.hs_erule.specs.declared.answer.Reason.{Reason}
-use Rattle.hs_erule.specs.declared.answer.Reason.TheVariants as reason
-use Rattle.hs_erule.specs.declared.answer.NodeAnswer.{NodeAnswer}
-use Rattle.hs_erule.specs.declared.answer.NodeAnswer.TheVariants as answer
+use Rattle.hs_check.specs.declared.verdict.Reason.{Reason}
+use Rattle.hs_check.specs.declared.verdict.Reason.TheVariants as reason
+use Rattle.hs_check.specs.declared.verdict.NodeAnswer.{NodeAnswer}
+use Rattle.hs_check.specs.declared.verdict.NodeAnswer.TheVariants as answer
 
 -- ---- the question
 

@@ -7,7 +7,7 @@ ghost use Rattle.hs_goal.specs.Shape.{GoalFits};
 ghost use Rattle.hs_rules.specs.Rules.{Applies};
 ghost use Rattle.hs_erule.specs.Judged.{IsVerdict, IsDecidedVerdict, verdict_of, IsAnswerTo, IsDecidedTo};
 
-use crate::answer::{NodeAnswer, Reason};
+use hs_check::{NodeAnswer, Reason};
 use hs_decide::{Answer, implies};
 use hs_goal::{ERule, Goal, Question};
 use hs_heap::Defs;

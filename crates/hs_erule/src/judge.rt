@@ -8,8 +8,8 @@ ghost use Rattle.hs_question.specs.Steps.{HasResidue};
 ghost use Rattle.hs_rules.specs.Rules.{Applies};
 ghost use Rattle.hs_erule.specs.Judged.{GoalsAre, goals_of, residues_of, IsJudged, IsDecidedTo};
 
-use crate::answer::{NodeAnswer, Reason};
 use crate::asking::answer;
+use hs_check::{NodeAnswer, Reason};
 use hs_goal::{ERule, Goal};
 use hs_heap::{Defs, Formula};
 use hs_pure::NoMemory;

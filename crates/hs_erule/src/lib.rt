@@ -4,13 +4,12 @@
 //! its tests that fails. It stops only where the rule's question takes too many new numbers or is spent.
 #![tactic(auto)]
 
-mod answer;
 mod asking;
 mod judge;
 mod shared;
 mod step;
 
-pub use answer::{NodeAnswer, Reason};
+pub use hs_check::{NodeAnswer, Reason};
 pub use hs_question::{question, residue};
 pub use hs_sides::RuleError;
 pub use hs_subgoals::subgoals;

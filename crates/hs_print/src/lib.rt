@@ -24,5 +24,5 @@ pub use line::Line;
 pub use printing::{formula, numbered_formula, numbered_pure, pure, valuation, variable};
 pub use refusal::Refusal;
 pub use report::text;
-pub use why::{Tried, Why};
+pub use why::{Tried, Why, push_why};
 pub use word::Word;

@@ -45,7 +45,7 @@ pub enum Tried {
     Numbers,
 }
 
-// Adds the text of a cause.
+/// Adds the text of a cause.
 pub fn push_why(out: &mut String, why: &Why) -> Result<(), AllocError>
     ensures { OnOk result (string_bytes out.new ≡ string_bytes out.old ++ why_text why.now) }
 {
