@@ -1,0 +1,6 @@
+mod Held
+mod Flat
+mod Ranges
+mod Names
+mod Opens
+mod Called
