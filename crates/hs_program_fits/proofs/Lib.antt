@@ -1,0 +1,14 @@
+pub mod Rules
+pub mod Holding
+pub mod Preparing
+pub mod Reading
+pub mod Shapes
+pub mod Forming
+pub mod Conjuncts
+pub mod OverSlots
+pub mod Renamed
+pub mod Nodes
+pub mod Calls
+pub mod Returns
+pub mod Asking
+pub mod Continuing
