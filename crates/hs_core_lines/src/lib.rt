@@ -16,5 +16,5 @@ pub use error::CoreError;
 pub use laws::{
     core_lines_are_unique, lowering_faults_are_unique, programs_have_no_lowering_fault,
 };
-pub use programs::core_lines;
+pub use programs::{core_lines, program};
 pub use runs::run_lines;

@@ -14,7 +14,7 @@ use Rattle.hs_steps.specs.Steps.{IsProofOf}
 use Rattle.hs_steps.specs.Joined.{residue_shown}
 use Rattle.hs_steps.specs.Laws.{ProofsHold}
 use Rattle.hs_norm_item.specs.declared.forms.Entailment.{Entailment}
-use Rattle.hs_entail_lines.specs.Lines.{goal_of}
+use Rattle.hs_claims.specs.Claims.{goal_of}
 
 none_there : (defs : Defs) → defs.lemmas ≡ [] → (j : ℕ) → lemma_at defs j ≡ None
 none_there defs e zero = refl

@@ -3,25 +3,20 @@ use Rattle.std.specs.Prelude.{◌≡◌, ℕ, ◌+◌, List, [], ◌∷◌, map,
 use Rattle.std.specs.List.{All}
 use Rattle.hs_heap.specs.Entailment.{Entails}
 use Rattle.hs_heap.specs.declared.definitions.Defs.{Defs}
-use Rattle.hs_goal.specs.declared.goal.Goal.{Goal}
 use Rattle.hs_goal.specs.declared.rule.Limits.{Limits}
 use Rattle.hs_goal.specs.declared.rule.Cause.{Cause}
-use Rattle.hs_goal.specs.Goal.{start}
 use Rattle.hs_erule.specs.declared.step.Proof.{Proof}
 use Rattle.hs_steps.specs.Joined.{residue_shown}
 use Rattle.hs_search.specs.Answer.{IsSearchAnswer}
 use Rattle.hs_search.specs.declared.answer.SleekAnswer.TheVariants.{Valid, Unknown}
 use Rattle.hs_norm_item.specs.declared.forms.Entailment.{Entailment}
+use Rattle.hs_claims.specs.Claims.{goal_of}
 use Rattle.hs_print.specs.Formula.{formula_text}
 use Rattle.hs_print.specs.declared.line.Line.{Line}
 use Rattle.hs_print.specs.declared.line.Line.TheVariants as line
 use Rattle.hs_print.specs.declared.why.Why.{Why}
 use Rattle.hs_print.specs.declared.why.Why.TheVariants as why
-use Rattle.hs_entail_lines.specs.Causes.{why_of}
-
--- the goal that an entailment asks
-abbrev pub goal_of : Entailment → Goal
-goal_of e = start e.left e.opens e.right e.next
+use Rattle.hs_causes.specs.Causes.{why_of}
 
 -- ---- one entailment
 
@@ -40,7 +35,7 @@ pub record IsValid (defs : Defs) (limits : Limits) (e : Entailment) (residues : 
 pub record IsUnknown (defs : Defs) (limits : Limits) (e : Entailment) (text : Why) : Type 0 where
   pub cause : Cause
   pub found : IsSearchAnswer defs limits (goal_of e) (Unknown cause)
-  pub printed : text ≡ why_of defs e limits cause
+  pub printed : text ≡ why_of defs e.names e.next limits cause
 
 -- the line is a verdict on the entailment with this number, and true
 abbrev pub IsVerdict : Defs → Limits → ℕ → Entailment → Line → Type 0

@@ -5,7 +5,6 @@
 //! which the search has no proof. Where the invariant of a predicate is not shown, that is the cause of all.
 #![tactic(auto)]
 
-mod causes;
 mod laws;
 mod lines;
 

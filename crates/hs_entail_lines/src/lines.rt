@@ -7,11 +7,13 @@ ghost use Rattle.hs_xpure.specs.Invariants.{InvariantsHold};
 ghost use Rattle.hs_goal.specs.Shape.{GoalFits};
 ghost use Rattle.hs_search.specs.Answer.{LimitsFit};
 ghost use Rattle.hs_entail_lines.specs.Lines as spec;
-ghost use Rattle.hs_entail_lines.specs.Lines.{goal_of, IsVerdict, IsEntailmentLine, AreEntailmentLines};
+ghost use Rattle.hs_claims.specs.Claims.{goal_of};
+ghost use Rattle.hs_entail_lines.specs.Lines.{IsVerdict, IsEntailmentLine, AreEntailmentLines};
 
-use crate::causes::why;
+use hs_causes::why;
+use hs_claims::goal_of;
 use hs_erule::Proof;
-use hs_goal::{Goal, Limits};
+use hs_goal::Limits;
 use hs_heap::Defs;
 use hs_norm::Entailment;
 use hs_print::{Line, Why, formula};
@@ -21,16 +23,6 @@ use hs_steps::{proofs_hold, residue_shown};
 use hs_text::Text;
 use sqlite_items::Items;
 use std::alloc::Global;
-
-// The goal that an entailment asks.
-fn goal_of(alloc: Global, e: &Entailment) -> Result<Goal, NoMemory>
-    ensures { IfOk result (λ g. g ≡ spec.goal_of e.now) }
-{
-    let left = e.left.copy(alloc)?;
-    let right = e.right.copy(alloc)?;
-    let opens = Items::from_slice(alloc, e.opens.as_slice())?;
-    Ok(Goal::start(alloc, left, opens, right, e.next))
-}
 
 fn printed_residue(
     alloc: Global,
@@ -83,7 +75,7 @@ fn verdict(
             Ok(Line::Valid(number, texts))
         }
         SleekAnswer::Unknown(cause) => {
-            Ok(Line::Unknown(number, why(alloc, defs, e, limits, &cause)?))
+            Ok(Line::Unknown(number, why(alloc, defs, &e.names, e.next, limits, &cause)?))
         }
     }
 }

@@ -6,8 +6,10 @@
 //! satisfies a predicate makes its invariant true.
 #![tactic(auto)]
 
+mod laws;
 mod lines;
 mod values;
 
+pub use laws::shown_invariants_hold;
 pub use lines::predicate_lines;
-pub use values::asked_below;
+pub use values::{asked_below, values_text};

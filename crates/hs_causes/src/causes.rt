@@ -1,13 +1,13 @@
-//! The printed causes of entailments that are not proved.
+//! Causes of searches.
 
 ghost use Rattle.std.specs.Prelude.{◌≡◌, Some, IfOk};
 ghost use Rattle.hs_print.specs.Pure.{pure_text};
 ghost use Rattle.hs_print.specs.Valuation.{valuation_text};
-ghost use Rattle.hs_entail_lines.specs.Causes as spec;
+ghost use Rattle.hs_causes.specs.Causes as spec;
 
 use hs_goal::{Cause, Limits, Obligation, Question};
 use hs_heap::{Atom, Defs, Disjunct, Formula};
-use hs_norm::{Entailment, Names};
+use hs_numbering::Names;
 use hs_pred_lines::asked_below;
 use hs_print::{Why, formula, pure, valuation, variable};
 use hs_pure::{NoMemory, Pure, Valuation};
@@ -34,26 +34,32 @@ fn atom_alone(alloc: Global, atom: &Atom) -> Result<Formula, NoMemory>
     })
 }
 
-fn values_text(alloc: Global, e: &Entailment, q: &Question, v: &Valuation) -> Result<Text, NoMemory>
-    ensures { IfOk result (λ text. text ≡ valuation_text e.now.names (spec.shown_variables e.now q.now) v.now) }
+fn values_text(
+    alloc: Global,
+    names: &Names,
+    next: u32,
+    q: &Question,
+    v: &Valuation,
+) -> Result<Text, NoMemory>
+    ensures { IfOk result (λ text. text ≡ valuation_text names.now (spec.shown_variables next q.now) v.now) }
 {
-    let shown = asked_below(alloc, &q.left, &q.right, e.next)?;
-    Ok(Text::new(valuation(alloc, &shown, v, &e.names)?))
+    let shown = asked_below(alloc, &q.left, &q.right, next)?;
+    Ok(Text::new(valuation(alloc, &shown, v, names)?))
 }
 
 fn why_failed(
     alloc: Global,
     defs: &Defs,
-    e: &Entailment,
+    names: &Names,
+    next: u32,
     obligation: &Obligation,
 ) -> Result<Why, NoMemory>
-    ensures { IfOk result (λ w. w ≡ spec.why_failed defs.now e.now obligation.now) }
+    ensures { IfOk result (λ w. w ≡ spec.why_failed defs.now names.now next obligation.now) }
 {
-    let names = &e.names;
     match obligation {
         Obligation::NotImplied(question, v) => Ok(Why::NotImplied(
             pure_text(alloc, names, &question.right)?,
-            values_text(alloc, e, question, v)?,
+            values_text(alloc, names, next, question, v)?,
         )),
         Obligation::NoChoice(atom) => {
             let alone = atom_alone(alloc, atom)?;
@@ -64,22 +70,24 @@ fn why_failed(
     }
 }
 
-/// The printed cause for which the search for an entailment has no proof.
+/// The printed cause for which a search has no proof. The claim has these source names and numbers below `next`, and
+/// the search these limits. `NoMemory` comes where there is none.
 pub fn why(
     alloc: Global,
     defs: &Defs,
-    e: &Entailment,
+    names: &Names,
+    next: u32,
     limits: &Limits,
     cause: &Cause,
 ) -> Result<Why, NoMemory>
-    ensures { IfOk result (λ w. w ≡ spec.why_of defs.now e.now limits.now cause.now) }
+    ensures exact { IfOk result (λ w. w ≡ spec.why_of defs.now names.now next limits.now cause.now) }
 {
     match cause {
         Cause::Goals => Ok(Why::Goals(limits.goals)),
         Cause::Numbers => Ok(Why::Numbers),
-        Cause::Atoms(question) => Ok(Why::Atoms(pure_text(alloc, &e.names, &question.right)?)),
-        Cause::Wide(question) => Ok(Why::Wide(pure_text(alloc, &e.names, &question.right)?)),
+        Cause::Atoms(question) => Ok(Why::Atoms(pure_text(alloc, names, &question.right)?)),
+        Cause::Wide(question) => Ok(Why::Wide(pure_text(alloc, names, &question.right)?)),
         Cause::Rank => Ok(Why::Rank(limits.rank)),
-        Cause::Failed(obligation) => why_failed(alloc, defs, e, obligation),
+        Cause::Failed(obligation) => why_failed(alloc, defs, names, next, obligation),
     }
 }
