@@ -5,8 +5,7 @@ use Rattle.hs_heap.specs.declared.formula.Atom.{Atom}
 use Rattle.hs_heap.specs.declared.definitions.Defs.{Defs}
 use Rattle.hs_print.specs.Lists.{with_signs}
 use Rattle.hs_print.specs.Formula.{atoms_text, formula_text}
-use Rattle.hs_node.specs.declared.derivation.Derivation.{Derivation}
-use Rattle.hs_dtext.specs.Text.{node_lines, claim_lines, lines_text, derivation_text}
+use Rattle.hs_dtext.specs.Text.{lines_text}
 
 pub atoms_alone : (defs : Defs) (xs : List Atom) → formula_text defs None (record { cases = record { bound = []; atoms = xs; pure = [] } ∷ [] }) ≡ atoms_text defs None xs
 atoms_alone defs xs = append-nil (atoms_text defs None xs ++ []) ∙ append-nil (atoms_text defs None xs)
@@ -24,12 +23,10 @@ lines_joined (x ∷ xs) ys = ap (λ l. x ++ (10 ∷ l)) (lines_joined xs ys) ∙
 pub two_writes : (old s e whole middle new : List ℕ) → middle ≡ old ++ s → new ≡ middle ++ e → s ++ e ≡ whole → new ≡ old ++ whole
 two_writes old s e whole middle new first second joined = second ∙ (ap (λ l. l ++ e) first ∙ (append_assoc old s e ∙ ap (λ l. old ++ l) joined))
 
-pub whole_text : (defs : Defs) (d : Derivation) (head nodes claims whole : List ℕ) → head ≡ codes "derivation 1\n" → nodes ≡ head ++ lines_text (node_lines defs 1 d.nodes)
-    → claims ≡ nodes ++ lines_text (claim_lines d.claims) → whole ≡ claims ++ codes "end\n" → whole ≡ derivation_text defs d
-whole_text defs d head nodes claims whole first second third last =
+pub whole_text : (ns cs : List (List ℕ)) (head nodes claims whole : List ℕ) → head ≡ codes "derivation 1\n" → nodes ≡ head ++ lines_text ns
+    → claims ≡ nodes ++ lines_text cs → whole ≡ claims ++ codes "end\n" → whole ≡ lines_text (codes "derivation 1" ∷ (ns ++ (cs ++ codes "end" ∷ [])))
+whole_text ns cs head nodes claims whole first second third last =
     let first_line : List ℕ = codes "derivation 1\n" in
-    let ns : List (List ℕ) = node_lines defs 1 d.nodes in
-    let cs : List (List ℕ) = claim_lines d.claims in
     let ends : List (List ℕ) = codes "end" ∷ [] in
     let joined : lines_text (ns ++ (cs ++ ends)) ≡ lines_text ns ++ (lines_text cs ++ lines_text ends) = lines_joined ns (cs ++ ends) ∙ ap (λ t. lines_text ns ++ t) (lines_joined cs ends) in
     last

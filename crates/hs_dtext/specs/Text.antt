@@ -16,6 +16,8 @@ use Rattle.hs_node.specs.declared.judgement.Rule.{Rule}
 use Rattle.hs_node.specs.declared.judgement.Rule.TheVariants.{Inv, E, P}
 use Rattle.hs_node.specs.declared.derivation.Node.{Node}
 use Rattle.hs_node.specs.declared.derivation.Derivation.{Derivation}
+use Rattle.hs_dtext.specs.declared.claims.ClaimLine.{ClaimLine}
+use Rattle.hs_dtext.specs.declared.claims.ClaimLine.TheVariants as claim
 use Rattle.hs_print.specs.Lists.{each_after, separated}
 use Rattle.hs_print.specs.Variable.{numbered_text}
 use Rattle.hs_print.specs.Pure.{pure_text}
@@ -146,6 +148,16 @@ abbrev pub claim_lines : List (ℕ × ℕ) → List (List ℕ)
 claim_lines [] = []
 claim_lines (c ∷ cs) = claim_text c ∷ claim_lines cs
 
+-- a claim and its node, or why it is open
+abbrev pub claim_line : ClaimLine → List ℕ
+claim_line (claim.Shown k n) = claim_text (k, n)
+claim_line (claim.Open k cause) = codes "# claim " ++ (decimal k ++ (codes " unknown: " ++ cause))
+
+-- claims that are shown or open
+abbrev pub all_claim_lines : List ClaimLine → List (List ℕ)
+all_claim_lines [] = []
+all_claim_lines (c ∷ cs) = claim_line c ∷ all_claim_lines cs
+
 -- each line with its end
 abbrev pub lines_text : List (List ℕ) → List ℕ
 lines_text [] = []
@@ -158,3 +170,27 @@ derivation_lines defs d = codes "derivation 1" ∷ (node_lines defs 1 d.nodes ++
 -- the text of a derivation
 abbrev pub derivation_text : Defs → Derivation → List ℕ
 derivation_text defs d = lines_text (derivation_lines defs d)
+
+-- ---- open claims
+
+-- the lines of nodes and of claims that are shown or open
+abbrev pub proved_lines : Defs → List Node → List ClaimLine → List (List ℕ)
+proved_lines defs nodes claims = codes "derivation 1" ∷ (node_lines defs 1 nodes ++ (all_claim_lines claims ++ codes "end" ∷ []))
+
+-- the text of nodes and of claims that are shown or open
+abbrev pub proved_text : Defs → List Node → List ClaimLine → List ℕ
+proved_text defs nodes claims = lines_text (proved_lines defs nodes claims)
+
+-- a claim that is shown
+abbrev pub shown : ℕ × ℕ → ClaimLine
+shown c = claim.Shown c.0 c.1
+
+-- the claims that are shown
+abbrev pub shown_claims : List ClaimLine → List (ℕ × ℕ)
+shown_claims [] = []
+shown_claims (claim.Shown k n ∷ cs) = (k, n) ∷ shown_claims cs
+shown_claims (claim.Open k cause ∷ cs) = shown_claims cs
+
+-- the derivation of nodes and of the claims that are shown
+abbrev pub proved : List Node → List ClaimLine → Derivation
+proved nodes claims = record { nodes = nodes; claims = shown_claims claims }

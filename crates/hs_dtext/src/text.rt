@@ -3,8 +3,9 @@
 ghost use Rattle.std.specs.Prelude.{◌≡◌, ◌++◌, ◌∷◌, OnOk, IfOk, codes};
 ghost use Rattle.std.specs.String.{string_bytes};
 ghost use Rattle.hs_print.specs.Lists.{each_after};
-ghost use Rattle.hs_dtext.specs.Text.{bare, side_parts, end_parts, goal_parts, at_parts, judgement_parts, node_text, node_lines, claim_lines, lines_text, derivation_text};
+ghost use Rattle.hs_dtext.specs.Text.{bare, side_parts, end_parts, goal_parts, at_parts, judgement_parts, node_text, node_lines, claim_text, claim_line, claim_lines, all_claim_lines, lines_text, derivation_text, proved_text};
 
+use crate::claims::ClaimLine;
 use crate::writer::{
     push_atoms, push_flag, push_formula, push_from, push_opens, push_rule, push_slots,
 };
@@ -122,14 +123,40 @@ fn push_nodes(alloc: Global, out: &mut String, defs: &Defs, nodes: &[Node]) -> R
     Ok(())
 }
 
+fn push_claim(out: &mut String, number: u32, node: u32) -> Result<(), AllocError>
+    ensures { OnOk result (string_bytes out.new ≡ string_bytes out.old ++ claim_text (number, node)) }
+{
+    write!(out, "claim {number} {node}")
+}
+
 // Adds the lines of claims, each with its end.
 fn push_claims(out: &mut String, claims: &[(u32, u32)]) -> Result<(), AllocError>
     ensures { OnOk result (string_bytes out.new ≡ string_bytes out.old ++ lines_text (claim_lines claims.now)) }
 {
     for claim in claims {
-        let number = claim.0;
-        let node = claim.1;
-        write!(out, "claim {number} {node}\n")?;
+        push_claim(out, claim.0, claim.1)?;
+        write!(out, "\n")?;
+    }
+    Ok(())
+}
+
+// Adds the line of a claim that is shown or open.
+fn push_claim_line(out: &mut String, line: &ClaimLine) -> Result<(), AllocError>
+    ensures { OnOk result (string_bytes out.new ≡ string_bytes out.old ++ claim_line line.now) }
+{
+    match line {
+        ClaimLine::Shown(number, node) => push_claim(out, *number, *node),
+        ClaimLine::Open(number, cause) => write!(out, "# claim {number} unknown: {cause}"),
+    }
+}
+
+// Adds the lines of claims that are shown or open, each with its end.
+fn push_claim_lines(out: &mut String, lines: &[ClaimLine]) -> Result<(), AllocError>
+    ensures { OnOk result (string_bytes out.new ≡ string_bytes out.old ++ lines_text (all_claim_lines lines.now)) }
+{
+    for line in lines {
+        push_claim_line(out, line)?;
+        write!(out, "\n")?;
     }
     Ok(())
 }
@@ -142,6 +169,24 @@ pub fn write(alloc: Global, defs: &Defs, derivation: &Derivation) -> Result<Stri
     write!(out, "derivation 1\n")?;
     push_nodes(alloc, &mut out, defs, derivation.nodes.as_slice())?;
     push_claims(&mut out, derivation.claims.as_slice())?;
+    write!(out, "end\n")?;
+    Ok(out)
+}
+
+/// The text of nodes and of the lines of claims, which stand as they are given. A data type or predicate that is not
+/// there prints as the empty name.
+pub fn write_proved(
+    alloc: Global,
+    defs: &Defs,
+    nodes: &[Node],
+    lines: &[ClaimLine],
+) -> Result<String, NoMemory>
+    ensures exact { IfOk result (λ text. string_bytes text ≡ proved_text defs.now nodes.now lines.now) }
+{
+    let mut out = String::new(alloc);
+    write!(out, "derivation 1\n")?;
+    push_nodes(alloc, &mut out, defs, nodes)?;
+    push_claim_lines(&mut out, lines)?;
     write!(out, "end\n")?;
     Ok(out)
 }

@@ -1,14 +1,15 @@
 -- The text of a writable derivation is read as that derivation.
-use Rattle.std.proofs.Common.{◌≡◌, ℕ, zero, suc, ◌+◌, ◌<◌, ◌≤◌, ◌^◌, Bool, true, false, ◌&&◌, if◌then◌else◌, nat_eq, nat_lt, List, [], ◌∷◌, ◌++◌, length, Ok, Err, refl, sym, ap, ◌∙◌, subst, append-nil, append_assoc, length-append, arith}
+use Rattle.std.proofs.Common.{◌≡◌, ℕ, zero, suc, ◌+◌, ◌<◌, ◌≤◌, ◌^◌, Bool, true, false, ◌&&◌, if◌then◌else◌, nat_eq, nat_lt, List, [], ◌∷◌, ◌++◌, length, map, Ok, Err, refl, sym, ap, ◌∙◌, subst, append-nil, append_assoc, length-append, arith}
 use Rattle.std.specs.Prelude.{IsTrue, codes}
 use Rattle.std.specs.List.{AllByRecursion, list_all}
-use Rattle.std.specs.Str.{is_utf8, IsAscii}
+use Rattle.std.specs.Str.{is_utf8, IsAscii, IsUtf8}
 use Rattle.std.specs.Fmt.{decimal}
 use Rattle.std.proofs.lemmas.Bool.Decides.{nat_tests}
-use Rattle.std.proofs.lemmas.Str.{IsUtf8-from_ascii, is_utf8-from_IsUtf8}
+use Rattle.std.proofs.lemmas.Str.{IsUtf8-append, IsUtf8-from_ascii, is_utf8-from_IsUtf8}
 use Rattle.hs_lex.specs.Tokens.{is_digit, is_in_name, BeginsWith}
 use Rattle.hs_heap.specs.declared.definitions.Defs.{Defs}
 use Rattle.hs_node.specs.declared.derivation.Node.{Node}
+use Rattle.hs_node.specs.declared.derivation.Derivation.{Derivation}
 use Rattle.hs_written.specs.Writable.{DefsAreWritable}
 use Rattle.hs_round_trip.proofs.Words.{word_spells}
 use Rattle.hs_line.specs.declared.fault.Fault.TheVariants as fault
@@ -20,12 +21,15 @@ use Rattle.hs_dtext.specs.declared.reading.Stage.{Stage}
 use Rattle.hs_dtext.specs.declared.reading.Stage.TheVariants.{Nodes, Claims, Ended}
 use Rattle.hs_dtext.specs.declared.reading.Reading.{Reading}
 use Rattle.hs_dtext.specs.declared.reading.LineError.TheVariants.{Forward, Bad}
-use Rattle.hs_dtext.specs.Lines.{is_earlier, or_bad, known, first_line, add_node, node_line, rises, rising, add_claim, by_word, worded_line, is_digit_first, takes_nodes, has_ended, later_line, begun as nothing_read, after_line, lines_from, after_first, all_lines}
-use Rattle.hs_dtext.specs.Text.{node_text, node_lines, claim_text, claim_lines, lines_text, derivation_lines, derivation_text}
-use Rattle.hs_dtext_laws.specs.Writable.{IsShort, IsEarlier, NodeIsWritable, NodesAreWritable, ClaimsRise}
-use Rattle.hs_dtext_laws.specs.Laws.{DerivationsComeBack}
+use Rattle.hs_dtext.specs.Lines.{is_earlier, or_bad, known, derivation_of, first_line, add_node, node_line, rises, rising, add_claim, by_word, worded_line, is_digit_first, takes_nodes, has_ended, later_line, begun as nothing_read, after_line, lines_from, after_first, all_lines}
+use Rattle.hs_dtext.specs.declared.claims.ClaimLine.{ClaimLine}
+use Rattle.hs_dtext.specs.declared.claims.ClaimLine.TheVariants as claim
+use Rattle.hs_dtext.specs.Text.{node_text, node_lines, claim_text, claim_line, all_claim_lines, lines_text, proved, proved_lines, proved_text, shown, shown_claims}
+use Rattle.hs_dtext.proofs.Proved.{derivation_text-proved, shown_claims-shown}
+use Rattle.hs_dtext_laws.specs.Writable.{CauseIsWritable, DerivationIsWritable, IsShort, IsEarlier, NodeIsWritable, NodesAreWritable, ClaimsRise}
+use Rattle.hs_dtext_laws.specs.Laws.{DerivationsComeBack, ProvedComesBack}
 use Rattle.hs_dtext_laws.proofs.Fronts.{past_digit, past_letter, run_back, behind_back, number_back}
-use Rattle.hs_dtext_laws.proofs.Lists.{Avoids, cut_first, alone_back}
+use Rattle.hs_dtext_laws.proofs.Lists.{Avoids, Avoids-append, cut_first, alone_back}
 use Rattle.hs_dtext_laws.proofs.Clean.{join, decimal_clean}
 use Rattle.hs_dtext_laws.proofs.Nodes.{all_clean, clean_by, is_lined, Lined, clean_lined, node_lined, node_begins, nodes_come_back}
 
@@ -52,9 +56,9 @@ lined_is_utf8 t h = is_utf8-from_IsUtf8 t (IsUtf8-from_ascii t (ascii_at t h))
 lined_by : (t : List ℕ) → IsTrue (all_clean t) → Lined t
 lined_by t h = clean_lined t (clean_by t h)
 
-lines_cut : (ls : List (List ℕ)) → AllByRecursion Lined ls → cut_at 10 (lines_text ls) ≡ ls ++ ([] ∷ [])
+lines_cut : (ls : List (List ℕ)) → AllByRecursion (Avoids 10) ls → cut_at 10 (lines_text ls) ≡ ls ++ ([] ∷ [])
 lines_cut [] all = refl
-lines_cut (l ∷ ls) all = cut_first 10 10 l (lines_text ls) (no_line_ends l all.0) refl ∙ ap (λ x. l ∷ x) (lines_cut ls all.1)
+lines_cut (l ∷ ls) all = cut_first 10 10 l (lines_text ls) all.0 refl ∙ ap (λ x. l ∷ x) (lines_cut ls all.1)
 
 abbrev IsSome : List (List ℕ) → Type 0
 IsSome [] = ⊥
@@ -184,30 +188,70 @@ claim_read defs stage nodes done c rise short low high few =
     ∙ (ap (λ o. or_bad (mapped (λ n. (c.0, n)) o) (add_claim r)) second
     ∙ (λ i. if earlier_is (suc (length nodes)) c.1 low below i then Ok (at_claims Claims nodes (done ++ c ∷ [])) else Err Forward)))))
 
-record Claimed (defs : Defs) (nodes : List Node) (stage : Stage) (done cs : List (ℕ × ℕ)) (from to : List (List ℕ)) : Type 0 where
+-- the front of the line of an open claim
+abbrev open_front : ℕ → List ℕ
+open_front k = codes "# claim " ++ (decimal k ++ codes " unknown: ")
+
+open_front_lined : (k : ℕ) → Lined (open_front k)
+open_front_lined k =
+    clean_lined (open_front k) (join (codes "# claim ") (decimal k ++ codes " unknown: ") (clean_by (codes "# claim ") refl)
+    (join (decimal k) (codes " unknown: ") (decimal_clean k) (clean_by (codes " unknown: ") refl)))
+
+open_line : (k : ℕ) (cause : List ℕ) → claim_line (claim.Open k cause) ≡ open_front k ++ cause
+open_line k cause = ap (λ l. codes "# claim " ++ l) (sym (append_assoc (decimal k) (codes " unknown: ") cause))
+
+open_avoids : (k : ℕ) (cause : List ℕ) → Avoids 10 cause → Avoids 10 (claim_line (claim.Open k cause))
+open_avoids k cause h =
+    subst (Avoids 10) (sym (open_line k cause)) (Avoids-append 10 (open_front k) cause (no_line_ends (open_front k) (open_front_lined k)) h)
+
+open_is_utf8 : (k : ℕ) (cause : List ℕ) → IsUtf8 cause → is_utf8 (claim_line (claim.Open k cause)) ≡ true
+open_is_utf8 k cause h =
+    ap is_utf8 (open_line k cause)
+    ∙ is_utf8-from_IsUtf8 (open_front k ++ cause) (IsUtf8-append (open_front k) cause (IsUtf8-from_ascii (open_front k) (ascii_at (open_front k) (open_front_lined k))) h)
+
+-- the line of an open claim is passed over
+open_read : (defs : Defs) (r : Reading) (k : ℕ) (cause : List ℕ) → IsUtf8 cause → later_line defs r (claim_line (claim.Open k cause)) ≡ Ok r
+open_read defs r k cause h = λ i. if open_is_utf8 k cause h i then Ok r else Err (Bad fault.Utf8)
+
+record Claimed (defs : Defs) (nodes : List Node) (stage : Stage) (done : List (ℕ × ℕ)) (cs : List ClaimLine) (from to : List (List ℕ)) : Type 0 where
   stage_after : Stage
   going : has_ended stage_after ≡ false
-  leads : LeadsTo defs (at_claims stage nodes done) (at_claims stage_after nodes (done ++ cs)) from to
+  leads : LeadsTo defs (at_claims stage nodes done) (at_claims stage_after nodes (done ++ shown_claims cs)) from to
 
-claims_read : (defs : Defs) (stage : Stage) (nodes : List Node) (done cs : List (ℕ × ℕ)) (low : ℕ) (m : List ℕ) (ms : List (List ℕ)) → has_ended stage ≡ false
-    → ((k : ℕ) → low ≤ k → rises done k ≡ true) → length nodes < 2 ^ 32 → ClaimsRise (length nodes) low cs → Claimed defs nodes stage done cs (claim_lines cs ++ (m ∷ ms)) (m ∷ ms)
-claims_read defs stage nodes done [] low m ms going rise few h = record {
+claims_read : (defs : Defs) (stage : Stage) (nodes : List Node) (done : List (ℕ × ℕ)) (cs : List ClaimLine) (low : ℕ) (m : List ℕ) (ms : List (List ℕ)) → has_ended stage ≡ false
+    → ((k : ℕ) → low ≤ k → rises done k ≡ true) → length nodes < 2 ^ 32 → ClaimsRise (length nodes) low (shown_claims cs) → AllByRecursion CauseIsWritable cs
+    → Claimed defs nodes stage done cs (all_claim_lines cs ++ (m ∷ ms)) (m ∷ ms)
+claims_read defs stage nodes done [] low m ms going rise few h causes = record {
   stage_after = stage;
   going = going;
   leads = record { at = λ k. k; same = λ k. ap (λ l. lines_from defs k (at_claims stage nodes l) (m ∷ ms)) (sym (append-nil done)) };
 }
-claims_read defs stage nodes done (c ∷ cs) low m ms going rise few h =
-    let later = claims_read defs Claims nodes (done ++ c ∷ []) cs (suc c.0) m ms refl (λ k le. rises_last done c k ∙ is_below c.0 k le) few h.1.1.1.1 in
-    let rest : List (List ℕ) = claim_lines cs ++ (m ∷ ms) in
+claims_read defs stage nodes done (claim.Shown c n ∷ cs) low m ms going rise few h causes =
+    let later = claims_read defs Claims nodes (done ++ (c, n) ∷ []) cs (suc c) m ms refl (λ k le. rises_last done (c, n) k ∙ is_below c k le) few h.1.1.1.1 causes.1 in
+    let rest : List (List ℕ) = all_claim_lines cs ++ (m ∷ ms) in
     record {
       stage_after = later.stage_after;
       going = later.going;
       leads = record {
         at = λ k. later.leads.at (k + 1);
         same = λ k.
-            take_one defs k (at_claims stage nodes done) (at_claims Claims nodes (done ++ c ∷ [])) (claim_text c) rest (some_append (claim_lines cs) m ms) going
-            (claim_read defs stage nodes done c (rise c.0 h.0) h.1.0 h.1.1.0 h.1.1.1.0 few)
-            ∙ (later.leads.same (k + 1) ∙ ap (λ l. lines_from defs (later.leads.at (k + 1)) (at_claims later.stage_after nodes l) (m ∷ ms)) (append_assoc done (c ∷ []) cs));
+            take_one defs k (at_claims stage nodes done) (at_claims Claims nodes (done ++ (c, n) ∷ [])) (claim_text (c, n)) rest (some_append (all_claim_lines cs) m ms) going
+            (claim_read defs stage nodes done (c, n) (rise c h.0) h.1.0 h.1.1.0 h.1.1.1.0 few)
+            ∙ (later.leads.same (k + 1) ∙ ap (λ l. lines_from defs (later.leads.at (k + 1)) (at_claims later.stage_after nodes l) (m ∷ ms)) (append_assoc done ((c, n) ∷ []) (shown_claims cs)));
+      };
+    }
+claims_read defs stage nodes done (claim.Open c cause ∷ cs) low m ms going rise few h causes =
+    let later = claims_read defs stage nodes done cs low m ms going rise few h causes.1 in
+    let rest : List (List ℕ) = all_claim_lines cs ++ (m ∷ ms) in
+    let r : Reading = at_claims stage nodes done in
+    record {
+      stage_after = later.stage_after;
+      going = later.going;
+      leads = record {
+        at = λ k. later.leads.at (k + 1);
+        same = λ k.
+            take_one defs k r r (claim_line (claim.Open c cause)) rest (some_append (all_claim_lines cs) m ms) going (open_read defs r c cause causes.0.0)
+            ∙ later.leads.same (k + 1);
       };
     }
 
@@ -219,17 +263,18 @@ end_read defs r = by_first_word defs r (codes "end") (lined_by (codes "end") ref
 first_read : first_line (codes "derivation 1") ≡ Ok tt
 first_read = λ i. if lined_is_utf8 (codes "derivation 1") (lined_by (codes "derivation 1") refl) i then or_bad (Ok 1) known else Err (Bad fault.Utf8)
 
-all_append : (xs ys : List (List ℕ)) → AllByRecursion Lined xs → AllByRecursion Lined ys → AllByRecursion Lined (xs ++ ys)
+all_append : (xs ys : List (List ℕ)) → AllByRecursion (Avoids 10) xs → AllByRecursion (Avoids 10) ys → AllByRecursion (Avoids 10) (xs ++ ys)
 all_append [] ys h g = g
 all_append (x ∷ xs) ys h g = (h.0, all_append xs ys h.1 g)
 
-nodes_clean : (defs : Defs) → DefsAreWritable defs → (n : ℕ) (xs : List Node) → AllByRecursion Lined (node_lines defs n xs)
+nodes_clean : (defs : Defs) → DefsAreWritable defs → (n : ℕ) (xs : List Node) → AllByRecursion (Avoids 10) (node_lines defs n xs)
 nodes_clean defs fit n [] = tt
-nodes_clean defs fit n (x ∷ xs) = (node_lined defs fit n x, nodes_clean defs fit (suc n) xs)
+nodes_clean defs fit n (x ∷ xs) = (no_line_ends (node_text defs n x) (node_lined defs fit n x), nodes_clean defs fit (suc n) xs)
 
-claims_clean : (cs : List (ℕ × ℕ)) → AllByRecursion Lined (claim_lines cs)
-claims_clean [] = tt
-claims_clean (c ∷ cs) = (claim_lined c, claims_clean cs)
+claims_clean : (cs : List ClaimLine) → AllByRecursion CauseIsWritable cs → AllByRecursion (Avoids 10) (all_claim_lines cs)
+claims_clean [] h = tt
+claims_clean (claim.Shown k n ∷ cs) h = (no_line_ends (claim_text (k, n)) (claim_lined (k, n)), claims_clean cs h.1)
+claims_clean (claim.Open k cause ∷ cs) h = (open_avoids k cause h.0.1, claims_clean cs h.1)
 
 started : (defs : Defs) (line : List ℕ) (rest : List (List ℕ)) → IsSome rest → first_line line ≡ Ok tt → all_lines defs (line ∷ rest) ≡ lines_from defs 2 nothing_read rest
 started defs line [] some e = absurd some
@@ -247,24 +292,42 @@ nodes_through defs fit xs [] [] few h some = absurd some
 nodes_through defs fit xs [] (z ∷ zs) few h some = nodes_read defs fit 1 [] xs z zs refl (omega arith) h
 nodes_through defs fit xs (y ∷ ys) zs few h some = nodes_read defs fit 1 [] xs y (ys ++ zs) refl (omega arith) h
 
-pub derivations_come_back : DerivationsComeBack
-derivations_come_back defs d h =
-    let ns : List (List ℕ) = node_lines defs 1 d.nodes in
-    let cs : List (List ℕ) = claim_lines d.claims in
+one_line : (w : List ℕ) → IsTrue (all_clean w) → Avoids 10 w
+one_line w h = no_line_ends w (lined_by w h)
+
+pub proved_comes_back : ProvedComesBack
+proved_comes_back defs nodes lines h causes =
+    let ns : List (List ℕ) = node_lines defs 1 nodes in
+    let cs : List (List ℕ) = all_claim_lines lines in
     let final : List (List ℕ) = codes "end" ∷ [] ∷ [] in
-    let cut : cut_at 10 (derivation_text defs d) ≡ codes "derivation 1" ∷ ((ns ++ (cs ++ codes "end" ∷ [])) ++ [] ∷ []) =
-    lines_cut (derivation_lines defs d) (
-      lined_by (codes "derivation 1") refl,
-      all_append ns (cs ++ codes "end" ∷ []) (nodes_clean defs h.defs_fit 1 d.nodes)
-          (all_append cs (codes "end" ∷ []) (claims_clean d.claims) (lined_by (codes "end") refl, tt)),
+    let cut : cut_at 10 (proved_text defs nodes lines) ≡ codes "derivation 1" ∷ ((ns ++ (cs ++ codes "end" ∷ [])) ++ [] ∷ []) =
+    lines_cut (proved_lines defs nodes lines) (
+      one_line (codes "derivation 1") refl,
+      all_append ns (cs ++ codes "end" ∷ []) (nodes_clean defs h.defs_fit 1 nodes)
+          (all_append cs (codes "end" ∷ []) (claims_clean lines causes) (one_line (codes "end") refl, tt)),
     ) in
     let shape : (ns ++ (cs ++ codes "end" ∷ [])) ++ [] ∷ [] ≡ ns ++ (cs ++ final) =
     append_assoc ns (cs ++ codes "end" ∷ []) ([] ∷ []) ∙ ap (λ l. ns ++ l) (append_assoc cs (codes "end" ∷ []) ([] ∷ [])) in
-    let claims = claims_read defs Nodes d.nodes [] d.claims 0 (codes "end") ([] ∷ []) refl (λ k le. refl) h.few h.claims in
-    let through : LeadsTo defs nothing_read (at_nodes d.nodes) (ns ++ (cs ++ final)) (cs ++ final) = nodes_through defs h.defs_fit d.nodes cs final h.few h.nodes tt in
-    let last : Reading = at_claims claims.stage_after d.nodes d.claims in
+    let claims = claims_read defs Nodes nodes [] lines 0 (codes "end") ([] ∷ []) refl (λ k le. refl) h.few h.claims causes in
+    let through : LeadsTo defs nothing_read (at_nodes nodes) (ns ++ (cs ++ final)) (cs ++ final) = nodes_through defs h.defs_fit nodes cs final h.few h.nodes tt in
+    let last : Reading = at_claims claims.stage_after nodes (shown_claims lines) in
     ap (all_lines defs) (cut ∙ ap (λ l. codes "derivation 1" ∷ l) shape)
     ∙ (started defs (codes "derivation 1") (ns ++ (cs ++ final)) (some_both ns cs final tt) first_read
     ∙ (through.same 2
     ∙ (claims.leads.same (through.at 2)
-    ∙ take_one defs (claims.leads.at (through.at 2)) last (record { stage = Ended; nodes = d.nodes; claims = d.claims }) (codes "end") ([] ∷ []) tt claims.going (end_read defs last))))
+    ∙ take_one defs (claims.leads.at (through.at 2)) last (record { stage = Ended; nodes = nodes; claims = shown_claims lines }) (codes "end") ([] ∷ []) tt claims.going (end_read defs last))))
+
+-- ---- derivations
+
+shown_causes : (cs : List (ℕ × ℕ)) → AllByRecursion CauseIsWritable (map shown cs)
+shown_causes [] = tt
+shown_causes (c ∷ cs) = (tt, shown_causes cs)
+
+proved_shown : (d : Derivation) → proved d.nodes (map shown d.claims) ≡ d
+proved_shown d = ap (λ (l : List (ℕ × ℕ)). record { nodes = d.nodes; claims = l }) (shown_claims-shown d.claims)
+
+pub derivations_come_back : DerivationsComeBack
+derivations_come_back defs d h =
+    ap (derivation_of defs) (derivation_text-proved defs d)
+    ∙ (proved_comes_back defs d.nodes (map shown d.claims) (subst (DerivationIsWritable defs) (sym (proved_shown d)) h) (shown_causes d.claims)
+    ∙ ap Ok (proved_shown d))

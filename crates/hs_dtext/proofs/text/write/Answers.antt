@@ -12,5 +12,5 @@ returns c =
     let third : string_bytes c.push_claims.new.out ≡ string_bytes c.push_nodes.new.out ++ lines_text (claim_lines c.args.derivation.now.claims) = search rules in
     let last : string_bytes c.write-2.new.self ≡ string_bytes c.push_claims.new.out ++ codes "end\n" = search rules in
     record {
-      text = whole_text c.args.defs.now c.args.derivation.now (string_bytes c.write.new.self) (string_bytes c.push_nodes.new.out) (string_bytes c.push_claims.new.out) (string_bytes c.write-2.new.self) first second third last;
+      text = whole_text (node_lines c.args.defs.now 1 c.args.derivation.now.nodes) (claim_lines c.args.derivation.now.claims) (string_bytes c.write.new.self) (string_bytes c.push_nodes.new.out) (string_bytes c.push_claims.new.out) (string_bytes c.write-2.new.self) first second third last;
     }
