@@ -1,4 +1,4 @@
-mod Served
+mod NormalForms
 mod Reasons
 mod Ending
 mod Replies

@@ -1,5 +1,5 @@
 -- Replies as reports.
-use Rattle.std.proofs.Common.{◌≡◌, inr, ℕ, List, [], ◌∷◌, Bool, true, false, if◌then◌else◌, Option, Some, None, Result, Ok, Err, IfOk, IfErr, sym, ap, ◌∙◌, subst}
+use Rattle.std.proofs.Common.{◌≡◌, ◌⊎◌, inl, inr, ℕ, List, [], ◌∷◌, Bool, true, false, if◌then◌else◌, Option, Some, None, Result, Ok, Err, IfOk, IfErr, sym, ap, ◌∙◌, subst}
 use Rattle.clap.specs.Words.{takes, subcommand_of}
 use Rattle.hs_cli.specs.Command.{hipsleek_app}
 use Rattle.hs_cli.specs.Job.{job_of}
@@ -13,8 +13,12 @@ use Rattle.hs_core_lines.specs.declared.error.CoreError.TheVariants as error
 use Rattle.hs_print.specs.declared.refusal.Refusal.{Refusal}
 use Rattle.hs_tool.specs.declared.reply.Reply.{Reply}
 use Rattle.hs_tool.specs.declared.reply.Reply.TheVariants.{FileFault, Refused, Answered}
-use Rattle.hs_tool.specs.Reply.{Known, IsSourceReply, IsStagedReply, lines_of}
-use Rattle.hs_tool.specs.Sources.{IsFoundedSource}
+use Rattle.hs_tool.specs.Reply.{Known, HasSource, IsSourceReply, IsStagedReply, lines_of}
+use Rattle.hs_source.specs.Resolved.{IsRefused}
+use Rattle.hs_core.specs.declared.program.Program.{Program}
+use Rattle.hs_tool.specs.declared.served.Served.{Served}
+use Rattle.hs_tool.specs.Served.{HasServingFault, IsClaimsReply}
+use Rattle.hs_tool.specs.Sources.{IsFoundedSource, IsServedSource}
 use Rattle.hs_tool.specs.Programs.{IsReplyOf}
 use Rattle.hs_tool.specs.Run.{job_named, IsReply, IsReport}
 
@@ -61,3 +65,21 @@ staged_source HasOwnFault IsAnswer HasCause bytes r is tells (Err (error.Refused
     subst (IsSourceReply (IsStagedReply HasFoundingFault HasOwnFault IsAnswer) bytes) (sym same)
     (on_source (IsStagedReply HasFoundingFault HasOwnFault IsAnswer) bytes r is (Refused refusal) (inr (is.faultless, tells refusal cause)))
 staged_source HasOwnFault IsAnswer HasCause bytes r is tells (Err error.Memory) answer cause reply same = absurd same
+
+-- ---- replies of the commands on claims
+
+module _ (HasOwnFault : Resolved → Program → Refusal → Type 0) (IsAnswer : Resolved → Program → List Line → Type 0) (bytes : List ℕ) where
+  pub claims_refused : (cause : Refusal) → IsRefused bytes cause ⊎ HasSource bytes (λ r. HasServingFault r cause) →
+      IsSourceReply (IsClaimsReply HasOwnFault IsAnswer) bytes (Refused cause)
+  claims_refused cause (inl h) = inl h
+  claims_refused cause (inr s) = inr (record { tree = s.tree; resolved = s.resolved; read = s.read; is = inl s.is })
+
+  pub claims_answered : (s : Served) → IsServedSource bytes s → (lines : List Line) → IsAnswer s.resolved s.program lines →
+      IsSourceReply (IsClaimsReply HasOwnFault IsAnswer) bytes (Answered lines)
+  claims_answered s is lines answer =
+      record { tree = is.founded.tree; resolved = s.resolved; read = is.founded.read; is = (s.program, is.served, answer) }
+
+  pub claims_own : (s : Served) → IsServedSource bytes s → (cause : Refusal) → HasOwnFault s.resolved s.program cause →
+      IsSourceReply (IsClaimsReply HasOwnFault IsAnswer) bytes (Refused cause)
+  claims_own s is cause own =
+      inr (record { tree = is.founded.tree; resolved = s.resolved; read = is.founded.read; is = inr (s.program, is.served, own) })

@@ -1,5 +1,5 @@
 -- What comes of a job, and the report that says it.
-use Rattle.std.specs.Prelude.{◌≡◌, ◌⊎◌, ℕ, ◌<◌, ◌≤◌, List, [], ◌∷◌, length, Bool, true, false, Option, IfSome}
+use Rattle.std.specs.Prelude.{◌≡◌, ◌⊎◌, ℕ, ◌<◌, ◌≤◌, List, [], ◌∷◌, length, Option, IfSome}
 use Rattle.hs_io.specs.Files.{bytes_of}
 use Rattle.hs_tree.specs.declared.source.Source.{Source}
 use Rattle.hs_norm.specs.declared.resolved.Resolved.{Resolved}
@@ -7,7 +7,7 @@ use Rattle.hs_source.specs.Resolved.{IsResolved, IsRefused}
 use Rattle.hs_print.specs.declared.line.Line.{Line}
 use Rattle.hs_print.specs.declared.line.Line.TheVariants as line
 use Rattle.hs_print.specs.declared.refusal.Refusal.{Refusal}
-use Rattle.hs_print.specs.declared.refusal.Refusal.TheVariants.{FileTooLarge, NotBuilt}
+use Rattle.hs_print.specs.declared.refusal.Refusal.TheVariants.{FileTooLarge}
 use Rattle.hs_tool.specs.declared.fetching.Fetched.{Fetched}
 use Rattle.hs_tool.specs.declared.fetching.Fetched.TheVariants.{Bytes, Missing}
 use Rattle.hs_tool.specs.declared.reply.Reply.{Reply}
@@ -80,15 +80,6 @@ IsSourceReply Is bytes (Answered lines) = HasSource bytes (λ r. Is r (Answered 
 -- no stage after the normal form finds a fault
 abbrev pub IsFaultless : (Resolved → Refusal → Type 0) → Resolved → Type 0
 IsFaultless HasFault r = (cause : Refusal) → HasFault r cause → ⊥
-
--- the reply to a source with a normal form: it is refused for a fault that a later stage finds, then where it is not
--- served, or else it is answered
-abbrev pub IsFormReply : (Resolved → Refusal → Type 0) → (Resolved → Bool) → (Resolved → List Line → Type 0) → Resolved → Reply → Type 0
-IsFormReply HasFault is_served IsAnswer r (FileFault name) = ⊥
-IsFormReply HasFault is_served IsAnswer r (Refused cause) =
-    HasFault r cause ⊎ (IsFaultless HasFault r × (is_served r ≡ false) × (cause ≡ NotBuilt))
-IsFormReply HasFault is_served IsAnswer r (Answered lines) =
-    IsFaultless HasFault r × (is_served r ≡ true) × IsAnswer r lines
 
 -- the reply of a command that serves all sources: one is refused for a fault that a later stage finds, then for one of
 -- the stages of the command, or else it is answered

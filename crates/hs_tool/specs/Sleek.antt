@@ -1,32 +1,18 @@
--- The reply to a file of entailments: a true line for each predicate and entailment and a summary, or the refusal of
--- the source.
-use Rattle.std.specs.Prelude.{◌≡◌, ◌≤◌, ◌^◌, List, [], ◌∷◌, ◌++◌, length, count_by, Bool, true, false}
-use Rattle.std.specs.List.{All}
-use Rattle.hs_heap.specs.Sound.{IsSound}
+-- The reply of `sleek`: a true line for each predicate and entailment and a summary, or the refusal of the source.
+use Rattle.std.specs.Prelude.{◌≡◌, List, [], ◌∷◌, ◌++◌, length, count_by, Bool, true, false}
 use Rattle.hs_goal.specs.declared.rule.Limits.{Limits}
-use Rattle.hs_goal.specs.Shape.{GoalFits}
 use Rattle.hs_cli.specs.declared.jobs.Options.{Options}
 use Rattle.hs_norm.specs.declared.resolved.Resolved.{Resolved}
-use Rattle.hs_founding.specs.Fault.{HasFoundingFault}
 use Rattle.hs_print.specs.declared.line.Line.{Line}
 use Rattle.hs_print.specs.declared.line.Line.TheVariants as line
 use Rattle.hs_pred_lines.specs.Lines.{ArePredicateLines, first_unshown}
-use Rattle.hs_entail_lines.specs.Lines.{goal_of, AreEntailmentLines}
+use Rattle.hs_entail_lines.specs.Lines.{AreEntailmentLines}
 use Rattle.hs_tool.specs.declared.reply.Reply.{Reply}
-use Rattle.hs_tool.specs.Reply.{IsFormReply}
-use Rattle.hs_tool.specs.Served.{is_served}
+use Rattle.hs_tool.specs.Served.{IsClaimsReply, HasNone}
 
 -- the limits of a search
 abbrev pub limits_of : Options → Limits
 limits_of o = record { rank = o.rank; goals = o.goals; atoms = o.atoms; level = o.level; residues = o.residues }
-
--- what is known of a source in normal form
-pub record IsNormalForm (r : Resolved) : Type 0 where
-  pub sound : IsSound r.defs
-  pub goals : All (λ e. GoalFits r.defs (goal_of e)) r.entailments
-  pub named : length r.pred_names ≡ length r.defs.preds
-  pub few : length r.entailments ≤ 2 ^ 20
-  pub few_preds : length r.defs.preds ≤ 2 ^ 20
 
 abbrev pub is_shown : Line → Bool
 is_shown (line.Shown pred) = true
@@ -48,6 +34,6 @@ pub record IsSleekReport (options : Options) (r : Resolved) (report : List Line)
   pub each : AreEntailmentLines r.defs (limits_of options) (first_unshown preds) r.entailments entailments
   pub lines : report ≡ preds ++ entailments ++ summary_of preds entailments ∷ []
 
--- the reply to a source with a normal form: definitions that are not founded are refused for their first fault
+-- the reply to a source with a normal form
 abbrev pub IsSleekReply : Options → Resolved → Reply → Type 0
-IsSleekReply options = IsFormReply HasFoundingFault is_served (IsSleekReport options)
+IsSleekReply options = IsClaimsReply HasNone (λ r p lines. IsSleekReport options r lines)

@@ -3,9 +3,7 @@
 ghost use Rattle.std.specs.Prelude.{◌≡◌, ◌≤◌, IfOk};
 ghost use Rattle.hs_io.specs.Faults.{Rose};
 ghost use Rattle.hs_tool.specs.Reply.{IsFetched};
-ghost use Rattle.hs_tool.specs.Run.{source_limit};
 
-use crate::SOURCE_LIMIT;
 use crate::reply::Reply;
 use hs_io::{FetchError, Files};
 use hs_print::Refusal;
@@ -22,13 +20,18 @@ pub enum Fetched {
     Missing(Reply),
 }
 
-/// Fetches the source or the heap text of this name.
-pub fn fetch<F: Files>(alloc: Global, name: Text, files: &mut F) -> Result<Fetched, NoMemory>
-    ensures fetched { IfOk result (IsFetched (F.texts files.old) (Rose (F.faults files.old) (F.faults files.new)) source_limit name) }
+/// Fetches the file of this name, which may have at most so many bytes.
+pub fn fetch<F: Files>(
+    alloc: Global,
+    name: Text,
+    limit: u64,
+    files: &mut F,
+) -> Result<Fetched, NoMemory>
+    ensures fetched { IfOk result (IsFetched (F.texts files.old) (Rose (F.faults files.old) (F.faults files.new)) limit name) }
     ensures later { F.faults files.old ≤ F.faults files.new }
     ensures same { F.texts files.new ≡ F.texts files.old }
 {
-    match files.fetch(alloc, name.as_str(), SOURCE_LIMIT) {
+    match files.fetch(alloc, name.as_str(), limit) {
         Ok(bytes) => Ok(Fetched::Bytes(bytes)),
         Err(FetchError::Failed) => Ok(Fetched::Missing(Reply::FileFault(name))),
         Err(FetchError::TooLarge(_)) => Ok(Fetched::Missing(Reply::Refused(Refusal::FileTooLarge))),

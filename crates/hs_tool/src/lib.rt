@@ -2,10 +2,11 @@
 //!
 //! [`run_tool`] writes one report, which the words and the files determine, and answers its status. A printed
 //! `valid` means that every stack and heap that satisfies the antecedent splits into a part that satisfies
-//! the consequent and a rest that satisfies the printed residue. A printed core program is the translation of the
-//! source, and the line of a run tells how the machine of that program ends. A refusal is that of the first fault: the
-//! words, the files, the lexer, the reader, the normal form, the definitions where they are not founded, then for
-//! `sleek` what is not served yet, and for `core` and `run` the translation, the heap text and the method.
+//! the consequent and a rest that satisfies the printed residue. A method of a program whose pairs are all `accepted` runs
+//! safely. `check` accepts exactly the derivations that prove every claim. A printed core program is the translation of
+//! the source, and the line of a run tells how the machine of that program ends. A refusal is that of the first fault: the
+//! words, the files, the lexer, the reader, the normal form, the definitions where they are not founded, the translation,
+//! what is not served yet, then the text of the derivation, or the heap text and the method.
 #![tactic(auto)]
 
 mod fetching;
@@ -13,6 +14,7 @@ mod laws;
 mod output;
 mod programs;
 mod reply;
+mod served;
 mod sleek;
 mod sources;
 mod statuses;

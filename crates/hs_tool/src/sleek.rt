@@ -1,30 +1,28 @@
-//! The reply to a file of entailments.
+//! The reply of `sleek`.
 
-ghost use Rattle.std.specs.Prelude.{◌≡◌, ◌≤◌, ◌^◌, ◌++◌, ◌∷◌, [], length, IfOk, true};
+ghost use Rattle.std.specs.Prelude.{◌≡◌, ◌≤◌, ◌^◌, ◌++◌, ◌∷◌, [], length, IfOk};
 ghost use Rattle.hs_cli.specs.Job.{AreInRange};
-ghost use Rattle.hs_founding.specs.Fault.{HasFoundingFault};
-ghost use Rattle.hs_tool.specs.Reply.{IsFaultless, IsSourceReply};
+ghost use Rattle.hs_tool.specs.Reply.{IsSourceReply};
 ghost use Rattle.hs_tool.specs.Run.{source_limit};
-ghost use Rattle.hs_tool.specs.Served.{is_served};
 ghost use Rattle.hs_tool.specs.Sleek as spec;
-ghost use Rattle.hs_tool.specs.Sleek.{IsNormalForm, IsSleekReport, IsSleekReply};
+ghost use Rattle.hs_tool.specs.Sleek.{IsSleekReport, IsSleekReply};
+ghost use Rattle.hs_tool.specs.Sources.{IsNormalForm};
 
 use crate::reply::Reply;
-use crate::sources::founded_source;
+use crate::served::{Served, served_source};
 use hs_cli::Options;
-use hs_entail_lines::{entailment_lines, entailments_are_goals};
+use hs_entail_lines::entailment_lines;
 use hs_goal::Limits;
 use hs_norm::Resolved;
-use hs_norm_sound::{definitions_are_sound, goals_are_well_formed, goals_have_disjuncts};
 use hs_pred_lines::predicate_lines;
-use hs_print::{Line, Refusal};
+use hs_print::Line;
 use hs_pure::NoMemory;
 use hs_source::SourceError;
 use sqlite_items::Items;
 use std::alloc::Global;
 
-// The limits of a search.
-fn limits_of(options: Options) -> Limits
+/// The limits of a search.
+pub fn limits_of(options: Options) -> Limits
     ensures { result ≡ spec.limits_of options }
 {
     Limits {
@@ -70,17 +68,9 @@ fn report(mut preds: Vec<Line>, mut entailments: Vec<Line>) -> Result<Items<Line
     Ok(Items::from_vec(preds))
 }
 
-// Whether a source in normal form has neither methods nor lemmas.
-fn is_served(resolved: &Resolved) -> bool
-    ensures { result ≡ is_served resolved.now }
-{
-    resolved.methods.is_empty() && resolved.defs.lemmas.is_empty()
-}
-
 // The lines on a source that is served.
 fn sleek(alloc: Global, resolved: &Resolved, options: Options) -> Result<Items<Line>, NoMemory>
     requires normal { IsNormalForm resolved.now }
-    requires served { is_served resolved.now ≡ true }
     requires range { AreInRange options }
     ensures { IfOk result (IsSleekReport options resolved.now) }
 {
@@ -95,31 +85,14 @@ fn sleek(alloc: Global, resolved: &Resolved, options: Options) -> Result<Items<L
     report(preds, entailments)
 }
 
-// The reply to a source whose definitions have no fault.
-fn form_reply(alloc: Global, resolved: &Resolved, options: Options) -> Result<Reply, NoMemory>
-    requires normal { IsNormalForm resolved.now }
-    requires range { AreInRange options }
-    requires faultless { IsFaultless HasFoundingFault resolved.now }
-    ensures { IfOk result (IsSleekReply options resolved.now) }
-{
-    if !is_served(resolved) {
-        return Ok(Reply::Refused(Refusal::NotBuilt));
-    }
-    Ok(Reply::Answered(sleek(alloc, resolved, options)?))
-}
-
-/// The reply to a source of at most 2^20 bytes.
-pub fn source_reply(alloc: Global, bytes: &[u8], options: Options) -> Result<Reply, NoMemory>
+/// The reply to a source of at most 2^20 bytes whose entailments are proved.
+pub fn sleek_reply(alloc: Global, bytes: &[u8], options: Options) -> Result<Reply, NoMemory>
     requires few { length bytes.now ≤ source_limit }
     requires range { AreInRange options }
     ensures { IfOk result (IsSourceReply (IsSleekReply options) bytes.now) }
 {
-    definitions_are_sound();
-    goals_are_well_formed();
-    goals_have_disjuncts();
-    entailments_are_goals();
-    match founded_source(alloc, bytes) {
-        Ok(resolved) => form_reply(alloc, &resolved, options),
+    match served_source(alloc, bytes) {
+        Ok(Served { resolved, .. }) => Ok(Reply::Answered(sleek(alloc, &resolved, options)?)),
         Err(SourceError::Refused(cause)) => Ok(Reply::Refused(cause)),
         Err(SourceError::Memory) => Err(NoMemory),
     }

@@ -9,14 +9,14 @@ ghost use Rattle.hs_tool.specs.Sleek.{IsSleekReply};
 ghost use Rattle.hs_tool.specs.Programs.{IsCoreReply, IsRunReply};
 ghost use Rattle.hs_tool.specs.Run.{source_limit, job_named, IsReply, IsReport, Ends};
 
-use crate::Line;
 use crate::fetching::{Fetched, fetch};
 use crate::laws::statuses_have_causes;
 use crate::output::write_all;
 use crate::programs::{core_reply, run_reply};
 use crate::reply::{Reply, alone, lines};
-use crate::sleek::source_reply;
+use crate::sleek::sleek_reply;
 use crate::statuses::status;
+use crate::{Line, SOURCE_LIMIT};
 use hs_cli::{Job, Options, WordsError, job};
 use hs_io::{Files, PutError, Sink};
 use hs_print::text;
@@ -102,8 +102,8 @@ fn sleek_file<F: Files>(
     requires { AreInRange options }
     ensures { IfOk result (IsFileReply (F.texts files.old) (Rose (F.faults files.old) (F.faults files.new)) source_limit name (IsSourceReply (IsSleekReply options))) }
 {
-    match fetch(alloc, name, files)? {
-        Fetched::Bytes(source) => source_reply(alloc, &source, options),
+    match fetch(alloc, name, SOURCE_LIMIT, files)? {
+        Fetched::Bytes(source) => sleek_reply(alloc, &source, options),
         Fetched::Missing(reply) => Ok(reply),
     }
 }
@@ -112,7 +112,7 @@ fn sleek_file<F: Files>(
 fn core_file<F: Files>(alloc: Global, name: Text, files: &mut F) -> Result<Reply, NoMemory>
     ensures { IfOk result (IsFileReply (F.texts files.old) (Rose (F.faults files.old) (F.faults files.new)) source_limit name (IsSourceReply IsCoreReply)) }
 {
-    match fetch(alloc, name, files)? {
+    match fetch(alloc, name, SOURCE_LIMIT, files)? {
         Fetched::Bytes(source) => core_reply(alloc, &source),
         Fetched::Missing(reply) => Ok(reply),
     }
@@ -130,7 +130,7 @@ fn run_files<F: Files>(
     ensures { IfOk result (IsFileReply (F.texts files.old) (Rose (F.faults files.old) (F.faults files.new)) source_limit file (λ source.
         IsFileReply (F.texts files.old) (Rose (F.faults files.old) (F.faults files.new)) source_limit heap (λ text. IsSourceReply (IsRunReply method.now text steps) source))) }
 {
-    match fetch(alloc, file, files)? {
+    match fetch(alloc, file, SOURCE_LIMIT, files)? {
         Fetched::Bytes(source) => run_source(alloc, &source, method, heap, steps, files),
         Fetched::Missing(reply) => Ok(reply),
     }
@@ -149,7 +149,7 @@ fn run_source<F: Files>(
     ensures reply { IfOk result (IsFileReply (F.texts files.old) (Rose (F.faults files.old) (F.faults files.new)) source_limit heap (λ text. IsSourceReply (IsRunReply method.now text steps) source.now)) }
     ensures later { F.faults files.old ≤ F.faults files.new }
 {
-    match fetch(alloc, heap, files)? {
+    match fetch(alloc, heap, SOURCE_LIMIT, files)? {
         Fetched::Bytes(text) => run_reply(alloc, source, method, &text, steps),
         Fetched::Missing(reply) => Ok(reply),
     }

@@ -6,11 +6,8 @@ use Rattle.hs_print.specs.declared.line.Line.{Line}
 use Rattle.hs_pred_lines.specs.Lines.{IsPredicateLine, first_unshown}
 use Rattle.hs_entail_lines.specs.Lines.{AreEntailmentLines}
 use Rattle.hs_tool.specs.Sleek.{limits_of, summary_of, IsSleekReport}
-use Rattle.hs_tool.proofs.Served.{lines_many, without_lemmas, sleek_report}
+use Rattle.hs_tool.proofs.NormalForms.{lines_many, sleek_report}
 use Rattle.hs_tool.proofs.sleek.sleek.Goals as goal
-
-pub entailment_lines-requires-clause-no_lemmas : goal.entailment_lines-requires-clause-no_lemmas
-entailment_lines-requires-clause-no_lemmas c = without_lemmas c.args.resolved.now c.requires.served
 
 pub report-requires-clause-preds : goal.report-requires-clause-preds
 report-requires-clause-preds c =
