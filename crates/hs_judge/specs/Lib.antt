@@ -1,0 +1,5 @@
+pub mod Named
+pub mod Told
+pub mod Right
+pub mod Listed
+pub mod Laws
