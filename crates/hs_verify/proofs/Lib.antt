@@ -1,0 +1,11 @@
+mod Forms
+mod Walks
+mod Complete
+mod Tasks
+mod Concluded
+mod Walking
+mod Taking
+mod Searches
+mod Rules
+mod Pairs
+mod Turns

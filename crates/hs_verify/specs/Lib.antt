@@ -1,0 +1,5 @@
+pub mod Tree
+pub mod Answer
+pub mod Laws
+pub mod Asked
+pub mod Visited
