@@ -4,4 +4,5 @@ pub mod Placing
 pub mod Held
 pub mod Found
 pub mod Saying
+pub mod Concluding
 pub mod Ready

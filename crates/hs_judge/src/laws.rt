@@ -1,6 +1,6 @@
-//! What listed claims say. Each function states a law; its calls bring those of the layers below.
+//! What listed claims and right nodes say. Each function states a law; its calls bring those of the layers below.
 
-ghost use Rattle.hs_judge.specs.Laws.{ListedEntailmentsHold, ListedPairsAreSafe};
+ghost use Rattle.hs_judge.specs.Laws.{ListedEntailmentsHold, ListedPairsAreSafe, RightStatesAreConcluded};
 
 use hs_program_rules::concluded_states_are_safe;
 use hs_rules::{right_steps_keep_meaning, right_steps_stay_fresh};
@@ -23,4 +23,13 @@ pub fn listed_pairs_are_safe()
     right_steps_keep_meaning();
     right_steps_stay_fresh();
     concluded_states_are_safe();
+}
+
+/// Where definitions are sound and without lemmas, and all invariants hold, each state that a node of a list of right
+/// nodes has is concluded.
+pub fn right_states_are_concluded()
+    ensures { RightStatesAreConcluded }
+{
+    right_steps_keep_meaning();
+    right_steps_stay_fresh();
 }

@@ -6,7 +6,8 @@
 //! lists every claim is accepted.
 //!
 //! Listed claims are true: each entailment holds with the residue that its line names, and the start of each pair is
-//! safe for every number of steps.
+//! safe for every number of steps. [`right_states_are_concluded`] states the same of right nodes alone: where all
+//! invariants hold, each state that a node has is concluded.
 #![tactic(auto)]
 
 mod answers;
@@ -22,4 +23,4 @@ mod tables;
 
 pub use checking::check;
 pub use hs_check::{Reason, Spent, Verdict};
-pub use laws::{listed_entailments_hold, listed_pairs_are_safe};
+pub use laws::{listed_entailments_hold, listed_pairs_are_safe, right_states_are_concluded};
