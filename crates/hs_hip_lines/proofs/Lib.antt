@@ -1,0 +1,3 @@
+mod Causing
+mod Telling
+mod Accepting

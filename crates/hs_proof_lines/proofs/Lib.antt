@@ -1,0 +1,4 @@
+mod Adding
+mod Found
+mod Listing
+mod Standing

@@ -1,0 +1,4 @@
+pub mod Open
+pub mod Proved
+pub mod Growing
+pub mod Checked
