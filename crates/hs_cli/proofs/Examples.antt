@@ -5,7 +5,7 @@ use Rattle.clap.specs.Words.{Text, subcommand_of, takes}
 use Rattle.clap.proofs.OnLiterals.{clap_on_literals}
 use Rattle.hs_cli.specs.Command.{hipsleek_app}
 use Rattle.hs_cli.specs.Job.{job_of}
-use Rattle.hs_cli.specs.declared.jobs.Job.TheVariants.{Core, Run, Sleek}
+use Rattle.hs_cli.specs.declared.jobs.Job.TheVariants.{Check, Core, Hip, Prove, Run, Sleek}
 
 -- each of these names a job
 abbrev job_words : List (List Text)
@@ -20,6 +20,10 @@ job_words = (codes "sleek" ∷ codes "a" ∷ [])
     ∷ (codes "sleek" ∷ codes "--rank=7" ∷ codes "a" ∷ [])
     ∷ (codes "sleek" ∷ codes "a" ∷ codes "--goals=1" ∷ codes "--atoms=1" ∷ codes "--xpure=0" ∷ codes "--residues=1" ∷ [])
     ∷ (codes "sleek" ∷ codes "a" ∷ codes "--goals=200000" ∷ codes "--atoms=2000000" ∷ codes "--xpure=3" ∷ codes "--residues=16" ∷ [])
+    ∷ (codes "hip" ∷ codes "a" ∷ codes "--rank=64" ∷ codes "--goals=1" ∷ codes "--atoms=1" ∷ codes "--xpure=3" ∷ [])
+    ∷ (codes "prove" ∷ codes "--xpure=0" ∷ codes "a" ∷ [])
+    ∷ (codes "check" ∷ codes "a" ∷ codes "d" ∷ [])
+    ∷ (codes "check" ∷ codes "--pieces=64" ∷ codes "a" ∷ codes "d" ∷ codes "--atoms=2000000" ∷ [])
     ∷ (codes "core" ∷ codes "a" ∷ [])
     ∷ (codes "run" ∷ codes "a" ∷ codes "f" ∷ codes "h" ∷ [])
     ∷ (codes "run" ∷ codes "a" ∷ codes "run" ∷ codes "a" ∷ codes "--steps" ∷ codes "0" ∷ [])
@@ -30,7 +34,13 @@ job_words = (codes "sleek" ∷ codes "a" ∷ [])
 abbrev other_words : List (List Text)
 other_words = []
     ∷ (codes "sleek" ∷ [])
-    ∷ (codes "hip" ∷ codes "a" ∷ [])
+    ∷ (codes "hip" ∷ [])
+    ∷ (codes "hip" ∷ codes "a" ∷ codes "--residues=1" ∷ [])
+    ∷ (codes "prove" ∷ codes "a" ∷ codes "--pieces=1" ∷ [])
+    ∷ (codes "check" ∷ codes "a" ∷ [])
+    ∷ (codes "check" ∷ codes "a" ∷ codes "d" ∷ codes "--pieces=65" ∷ [])
+    ∷ (codes "check" ∷ codes "a" ∷ codes "d" ∷ codes "--pieces=0" ∷ [])
+    ∷ (codes "check" ∷ codes "a" ∷ codes "d" ∷ codes "--rank=1" ∷ [])
     ∷ (codes "help" ∷ [])
     ∷ (codes "--help" ∷ [])
     ∷ (codes "--version" ∷ [])
@@ -83,6 +93,45 @@ pub job_of-example : job_of (subcommand_of hipsleek_app (codes "sleek" ∷ codes
     }))
 unfolding clap_on_literals
 job_of-example = refl
+
+pub job_of-hip : job_of (subcommand_of hipsleek_app (codes "hip" ∷ codes "a" ∷ codes "--goals=9" ∷ []))
+    ≡ Some (Hip (codes "a") (record {
+      rank = 12;
+      goals = 9;
+      atoms = 200000;
+      level = 1;
+      residues = 1;
+      pieces = 1;
+      steps = 1000;
+    }))
+unfolding clap_on_literals
+job_of-hip = refl
+
+pub job_of-prove : job_of (subcommand_of hipsleek_app (codes "prove" ∷ codes "a" ∷ codes "--goals=9" ∷ []))
+    ≡ Some (Prove (codes "a") (record {
+      rank = 12;
+      goals = 9;
+      atoms = 200000;
+      level = 1;
+      residues = 1;
+      pieces = 1;
+      steps = 1000;
+    }))
+unfolding clap_on_literals
+job_of-prove = refl
+
+pub job_of-check : job_of (subcommand_of hipsleek_app (codes "check" ∷ codes "a" ∷ codes "d" ∷ codes "--pieces=3" ∷ []))
+    ≡ Some (Check (codes "a") (codes "d") (record {
+      rank = 12;
+      goals = 20000;
+      atoms = 200000;
+      level = 1;
+      residues = 4;
+      pieces = 3;
+      steps = 1000;
+    }))
+unfolding clap_on_literals
+job_of-check = refl
 
 pub job_of-core : job_of (subcommand_of hipsleek_app (codes "core" ∷ codes "a" ∷ [])) ≡ Some (Core (codes "a"))
 unfolding clap_on_literals

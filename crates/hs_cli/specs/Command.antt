@@ -15,15 +15,67 @@ abbrev pub option_rule : Text → ValueParser → Rule
 option_rule name parser =
     record (new_rule name) { long = Some name; action = Some Set; parser = Some parser }
 
+-- `--rank`, from 0 to 64
+abbrev pub rank_rule : Rule
+rank_rule = option_rule (codes "rank") (Signed (pos 0) (pos 64))
+
+-- `--goals`, from 1 to 200000
+abbrev pub goals_rule : Rule
+goals_rule = option_rule (codes "goals") (Unsigned 1 200000)
+
+-- `--atoms`, from 1 to 2000000
+abbrev pub atoms_rule : Rule
+atoms_rule = option_rule (codes "atoms") (Unsigned 1 2000000)
+
+-- `--xpure`, from 0 to 3
+abbrev pub xpure_rule : Rule
+xpure_rule = option_rule (codes "xpure") (Signed (pos 0) (pos 3))
+
+-- `--residues`, from 1 to 16
+abbrev pub residues_rule : Rule
+residues_rule = option_rule (codes "residues") (Signed (pos 1) (pos 16))
+
+-- `--pieces`, from 1 to 64
+abbrev pub pieces_rule : Rule
+pieces_rule = option_rule (codes "pieces") (Signed (pos 1) (pos 64))
+
+-- `--steps`, from 0 to 1000000
+abbrev pub steps_rule : Rule
+steps_rule = option_rule (codes "steps") (Unsigned 0 1000000)
+
 -- `sleek` with its arguments, each number in its range
 abbrev pub sleek_shape : Shape
 sleek_shape = record (new_shape (codes "sleek")) {
   rules = positional_rule (codes "file")
-      ∷ option_rule (codes "rank") (Signed (pos 0) (pos 64))
-      ∷ option_rule (codes "goals") (Unsigned 1 200000)
-      ∷ option_rule (codes "atoms") (Unsigned 1 2000000)
-      ∷ option_rule (codes "xpure") (Signed (pos 0) (pos 3))
-      ∷ option_rule (codes "residues") (Signed (pos 1) (pos 16))
+      ∷ rank_rule
+      ∷ goals_rule
+      ∷ atoms_rule
+      ∷ xpure_rule
+      ∷ residues_rule
+      ∷ [];
+}
+
+-- a command of this name that searches for one derivation
+abbrev pub search_shape : Text → Shape
+search_shape name = record (new_shape name) {
+  rules = positional_rule (codes "file") ∷ rank_rule ∷ goals_rule ∷ atoms_rule ∷ xpure_rule ∷ [];
+}
+
+-- `hip` with its arguments
+abbrev pub hip_shape : Shape
+hip_shape = search_shape (codes "hip")
+
+-- `prove` with its arguments
+abbrev pub prove_shape : Shape
+prove_shape = search_shape (codes "prove")
+
+-- `check` with its source, its derivation, the bound on atoms and the number of pieces
+abbrev pub check_shape : Shape
+check_shape = record (new_shape (codes "check")) {
+  rules = positional_rule (codes "file")
+      ∷ positional_rule (codes "derivation")
+      ∷ atoms_rule
+      ∷ pieces_rule
       ∷ [];
 }
 
@@ -37,7 +89,7 @@ run_shape = record (new_shape (codes "run")) {
   rules = positional_rule (codes "file")
       ∷ positional_rule (codes "method")
       ∷ positional_rule (codes "heap")
-      ∷ option_rule (codes "steps") (Unsigned 0 1000000)
+      ∷ steps_rule
       ∷ [];
 }
 
@@ -52,4 +104,7 @@ hipsleek_shape = record (new_shape (codes "hipsleek")) {
 
 -- the command with its subcommands
 abbrev pub hipsleek_app : App
-hipsleek_app = record { top = hipsleek_shape; subs = sleek_shape ∷ core_shape ∷ run_shape ∷ [] }
+hipsleek_app = record {
+  top = hipsleek_shape;
+  subs = sleek_shape ∷ hip_shape ∷ prove_shape ∷ check_shape ∷ core_shape ∷ run_shape ∷ [];
+}

@@ -25,6 +25,12 @@ pub struct Options {
 pub enum Job {
     /// To prove the entailments of the file of this name.
     Sleek(Text, Options),
+    /// To verify the methods of the file of this name.
+    Hip(Text, Options),
+    /// To write a derivation of the claims of the file of this name.
+    Prove(Text, Options),
+    /// To check a derivation: the name of the source's file, the name of the derivation's file.
+    Check(Text, Text, Options),
     /// To print the core program of the file of this name.
     Core(Text),
     /// To run a method of a file on a heap: the file's name, the method's name, the name of the file of the heap.

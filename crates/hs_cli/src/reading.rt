@@ -2,9 +2,9 @@
 
 ghost use Rattle.std.specs.Prelude.{◌≡◌, IfOk, IsErrOf, None, Some, codes, false, map, true};
 ghost use Rattle.std.specs.String.{string_bytes};
-ghost use Rattle.clap.specs.Words.{first_of, found_of, rows_of, subcommand_of, subcommand_rows_of, takes};
+ghost use Rattle.clap.specs.Words.{first_of, found_of, one_of, rows_of, subcommand_of, subcommand_rows_of, takes};
 ghost use Rattle.hs_cli.specs.Command.{hipsleek_app};
-ghost use Rattle.hs_cli.specs.Job.{HasNamedNumbers, HasNumber, HasNumbers, IsInRange, core_job_of, job_of, options_of, run_job_of, run_options_of, sleek_job_of};
+ghost use Rattle.hs_cli.specs.Job.{HasCheckNumbers, HasNamedNumbers, HasNumber, HasNumbers, HasSearchNumbers, IsInRange, check_job_of, check_options_of, core_job_of, hip_job_of, job_of, number_or, options_of, prove_job_of, run_job_of, run_options_of, search_options_of, sleek_job_of};
 ghost use Rattle.hs_cli.specs.declared.error.WordsError.TheVariants.{Words};
 
 use crate::command::hipsleek;
@@ -36,6 +36,15 @@ fn named_job(alloc: Global, matches: &ArgMatches<'_>) -> Result<Job, WordsError>
     if let Some(sleek) = matches.subcommand_matches("sleek") {
         return sleek_job(alloc, sleek);
     }
+    if let Some(hip) = matches.subcommand_matches("hip") {
+        return hip_job(alloc, hip);
+    }
+    if let Some(prove) = matches.subcommand_matches("prove") {
+        return prove_job(alloc, prove);
+    }
+    if let Some(check) = matches.subcommand_matches("check") {
+        return check_job(alloc, check);
+    }
     if let Some(core) = matches.subcommand_matches("core") {
         return core_job(alloc, core);
     }
@@ -52,6 +61,34 @@ fn sleek_job(alloc: Global, matches: &ArgMatches<'_>) -> Result<Job, WordsError>
 {
     let file = word(alloc, matches, "file")?;
     Ok(Job::Sleek(file, options(matches)))
+}
+
+fn hip_job(alloc: Global, matches: &ArgMatches<'_>) -> Result<Job, WordsError>
+    requires { HasSearchNumbers (rows_of (found_of matches.now)) }
+    ensures words { IsErrOf result Words → hip_job_of (rows_of (found_of matches.now)) ≡ None }
+    ensures job { IfOk result (λ j. hip_job_of (rows_of (found_of matches.now)) ≡ Some j) }
+{
+    let file = word(alloc, matches, "file")?;
+    Ok(Job::Hip(file, search_options(matches)))
+}
+
+fn prove_job(alloc: Global, matches: &ArgMatches<'_>) -> Result<Job, WordsError>
+    requires { HasSearchNumbers (rows_of (found_of matches.now)) }
+    ensures words { IsErrOf result Words → prove_job_of (rows_of (found_of matches.now)) ≡ None }
+    ensures job { IfOk result (λ j. prove_job_of (rows_of (found_of matches.now)) ≡ Some j) }
+{
+    let file = word(alloc, matches, "file")?;
+    Ok(Job::Prove(file, search_options(matches)))
+}
+
+fn check_job(alloc: Global, matches: &ArgMatches<'_>) -> Result<Job, WordsError>
+    requires { HasCheckNumbers (rows_of (found_of matches.now)) }
+    ensures words { IsErrOf result Words → check_job_of (rows_of (found_of matches.now)) ≡ None }
+    ensures job { IfOk result (λ j. check_job_of (rows_of (found_of matches.now)) ≡ Some j) }
+{
+    let source = word(alloc, matches, "file")?;
+    let derivation = word(alloc, matches, "derivation")?;
+    Ok(Job::Check(source, derivation, check_options(matches)))
 }
 
 fn core_job(alloc: Global, matches: &ArgMatches<'_>) -> Result<Job, WordsError>
@@ -86,12 +123,44 @@ fn options(matches: &ArgMatches<'_>) -> Options
     ensures { result ≡ options_of (rows_of (found_of matches.now)) }
 {
     Options {
+        residues: matches.get_one("residues").unwrap_or(4),
+        ..search_options(matches)
+    }
+}
+
+fn search_options(matches: &ArgMatches<'_>) -> Options
+    requires { HasSearchNumbers (rows_of (found_of matches.now)) }
+    ensures { result ≡ search_options_of (rows_of (found_of matches.now)) }
+{
+    Options {
         rank: matches.get_one("rank").unwrap_or(12),
         goals: matches.get_one("goals").unwrap_or(20_000),
-        atoms: matches.get_one("atoms").unwrap_or(200_000),
+        atoms: atoms(matches),
         level: matches.get_one("xpure").unwrap_or(1),
-        residues: matches.get_one("residues").unwrap_or(4),
+        residues: 1,
         pieces: 1,
+        steps: 1000,
+    }
+}
+
+fn atoms(matches: &ArgMatches<'_>) -> u64
+    requires { HasNumber 64 (codes "atoms") (rows_of (found_of matches.now)) }
+    ensures { result ≡ number_or 200000 (one_of (codes "atoms") (rows_of (found_of matches.now))) }
+{
+    matches.get_one("atoms").unwrap_or(200_000)
+}
+
+fn check_options(matches: &ArgMatches<'_>) -> Options
+    requires { HasCheckNumbers (rows_of (found_of matches.now)) }
+    ensures { result ≡ check_options_of (rows_of (found_of matches.now)) }
+{
+    Options {
+        rank: 12,
+        goals: 20_000,
+        atoms: atoms(matches),
+        level: 1,
+        residues: 4,
+        pieces: matches.get_one("pieces").unwrap_or(1),
         steps: 1000,
     }
 }

@@ -13,5 +13,8 @@ returns c =
     let top = settled _ _ _ (λ s. record s { disable_help_subcommand = true }) (λ f. record f { disable_help_subcommand = true }) (λ f. refl) (λ f. refl) required
     c.disable_help_subcommand.ensures in
     let with_sleek = added_below _ _ _ _ _ top c.in_ok-subcommand.ensures c.in_ok-sleek.ensures.0 c.in_ok-sleek.ensures.1 in
-    let with_core = added_below _ _ _ _ _ with_sleek c.in_ok-subcommand-2.ensures c.in_ok-core.ensures.0 c.in_ok-core.ensures.1 in
-    IfOk-weaker c.subcommand-3.result _ _ (λ m adds. (added_below _ _ _ _ _ with_core adds c.in_ok-run.ensures.0 c.in_ok-run.ensures.1).0) c.subcommand-3.ensures
+    let with_hip = added_below _ _ _ _ _ with_sleek c.in_ok-subcommand-2.ensures c.in_ok-search.ensures.0 c.in_ok-search.ensures.1 in
+    let with_prove = added_below _ _ _ _ _ with_hip c.in_ok-subcommand-3.ensures c.in_ok-search-2.ensures.0 c.in_ok-search-2.ensures.1 in
+    let with_check = added_below _ _ _ _ _ with_prove c.in_ok-subcommand-4.ensures c.in_ok-check.ensures.0 c.in_ok-check.ensures.1 in
+    let with_core = added_below _ _ _ _ _ with_check c.in_ok-subcommand-5.ensures c.in_ok-core.ensures.0 c.in_ok-core.ensures.1 in
+    IfOk-weaker c.subcommand-6.result _ _ (λ m adds. (added_below _ _ _ _ _ with_core adds c.in_ok-run.ensures.0 c.in_ok-run.ensures.1).0) c.subcommand-6.ensures

@@ -1,20 +1,15 @@
-use Rattle.std.proofs.Common.{◌≡◌, ◌∙◌, codes, ap, pos}
+use Rattle.std.proofs.Common.{ap, codes}
 use Rattle.std.proofs.lemmas.Result.{IfOk-weaker}
 use Rattle.clap.specs.Words.{App, new_app}
-use Rattle.clap.specs.declared.builder.ValueParser.TheVariants.{Unsigned}
-use Rattle.hs_cli.specs.Command.{option_rule}
-use Rattle.hs_cli.proofs.Making.{IsMade, added, narrows}
+use Rattle.hs_cli.proofs.Making.{IsMade, added}
 use Rattle.hs_cli.proofs.command.run.Goals as goal
 
 pub returns : goal.returns
 returns c =
-    let steps : c.range.result ≡ Unsigned 0 1000000 =
-    narrows _ _ _ _ _ _ _ c.value_parser.ensures c.new.ensures.start c.new.ensures.end c.range.ensures in
-    let start : IsMade c.new-2.result (new_app (codes "run")) = (c.new-2.ensures.app, c.new-2.ensures.local) in
+    let start : IsMade c.new.result (new_app (codes "run")) = (c.new.ensures.app, c.new.ensures.local) in
     let with_file = added _ _ _ _ _ start c.in_ok-arg.ensures c.positional.ensures.0 c.positional.ensures.1 in
     let with_method = added _ _ _ _ _ with_file c.in_ok-arg-2.ensures c.positional-2.ensures.0 c.positional-2.ensures.1 in
     let with_heap = added _ _ _ _ _ with_method c.in_ok-arg-3.ensures c.positional-3.ensures.0 c.positional-3.ensures.1 in
     IfOk-weaker c.arg-4.result _ _ (λ m adds.
-    let made = added _ _ _ _ _ with_heap adds
-    (c.option-steps.ensures.0 ∙ ap (option_rule (codes "steps")) steps) c.option-steps.ensures.1 in
+    let made = added _ _ _ _ _ with_heap adds c.steps.ensures.0 c.steps.ensures.1 in
     (ap (λ (x : App). x.top) made.0, made.1)) c.arg-4.ensures

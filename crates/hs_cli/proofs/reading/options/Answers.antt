@@ -8,14 +8,6 @@ use Rattle.hs_cli.proofs.reading.options.Goals as goal
 pub returns : goal.returns
 returns c =
     let m = c.args.matches.now in
-    let rank : c.unwrap_or.result ≡ number_or 12 (one_of (codes "rank") (rows_of (found_of m))) = c.unwrap_or.ensures
-    ∙ reads_option (λ bs r. ParsesUnsigned 32 10 bs r × ExplainsUnsignedError 10 bs r × HasUnsignedDigitsIfOk bs r) 32 12 m (codes "rank") c.get_one.result c.get_one.ensures.none c.get_one.ensures.value (λ u x g. g.0) c.requires.0 in
-    let goals : c.unwrap_or-2.result ≡ number_or 20000 (one_of (codes "goals") (rows_of (found_of m))) = c.unwrap_or-2.ensures
-    ∙ reads_option (λ bs r. ParsesUnsigned 64 10 bs r × ExplainsUnsignedError 10 bs r × HasUnsignedDigitsIfOk bs r) 64 20000 m (codes "goals") c.get_one-2.result c.get_one-2.ensures.none c.get_one-2.ensures.value (λ u x g. g.0) c.requires.1 in
-    let atoms : c.unwrap_or-3.result ≡ number_or 200000 (one_of (codes "atoms") (rows_of (found_of m))) = c.unwrap_or-3.ensures
-    ∙ reads_option (λ bs r. ParsesUnsigned 64 10 bs r × ExplainsUnsignedError 10 bs r × HasUnsignedDigitsIfOk bs r) 64 200000 m (codes "atoms") c.get_one-3.result c.get_one-3.ensures.none c.get_one-3.ensures.value (λ u x g. g.0) c.requires.2 in
-    let level : c.unwrap_or-4.result ≡ number_or 1 (one_of (codes "xpure") (rows_of (found_of m))) = c.unwrap_or-4.ensures
-    ∙ reads_option (λ bs r. ParsesUnsigned 32 10 bs r × ExplainsUnsignedError 10 bs r × HasUnsignedDigitsIfOk bs r) 32 1 m (codes "xpure") c.get_one-4.result c.get_one-4.ensures.none c.get_one-4.ensures.value (λ u x g. g.0) c.requires.3 in
-    let residues : c.unwrap_or-5.result ≡ number_or 4 (one_of (codes "residues") (rows_of (found_of m))) = c.unwrap_or-5.ensures
-    ∙ reads_option (λ bs r. ParsesUnsigned 32 10 bs r × ExplainsUnsignedError 10 bs r × HasUnsignedDigitsIfOk bs r) 32 4 m (codes "residues") c.get_one-5.result c.get_one-5.ensures.none c.get_one-5.ensures.value (λ u x g. g.0) c.requires.4 in
-    rw (rank, goals, atoms, level, residues) refl
+    let residues : c.unwrap_or.result ≡ number_or 4 (one_of (codes "residues") (rows_of (found_of m))) = c.unwrap_or.ensures
+    ∙ reads_option (λ bs r. ParsesUnsigned 32 10 bs r × ExplainsUnsignedError 10 bs r × HasUnsignedDigitsIfOk bs r) 32 4 m (codes "residues") c.get_one.result c.get_one.ensures.none c.get_one.ensures.value (λ u x g. g.0) c.requires.1 in
+    rw (residues, c.search_options.ensures) refl
