@@ -17,7 +17,10 @@ use Rattle.hs_pred_lines.specs.Lines.{AreLines, ArePredicateLines, first_unshown
 use Rattle.hs_entail_lines.specs.Laws.{EntailmentsAreGoals}
 use Rattle.hs_entail_lines.specs.Lines.{AreEntailmentLines}
 use Rattle.hs_tool.specs.Sources.{IsFoundedSource, IsNormalForm, IsItsProgram}
+use Rattle.hs_hip_lines.specs.Lines.{ArePairLines}
 use Rattle.hs_tool.specs.Sleek.{limits_of, summary_of, IsSleekReport}
+use Rattle.hs_tool.specs.Hip as hip
+use Rattle.hs_tool.specs.Hip.{IsHipReport}
 
 -- a line for each predicate
 pub lines_many : (Is : ℕ → Line → Type 0) (number : ℕ) (ps : List PredDef) (ls : List Line) → AreLines Is number ps ls → length ls ≡ length ps
@@ -70,3 +73,8 @@ pub sleek_report : (options : Options) (r : Resolved) (preds entailments report 
     → AreEntailmentLines r.defs (limits_of options) (first_unshown preds) r.entailments entailments → report ≡ preds ++ entailments ++ summary_of preds entailments ∷ []
     → IsSleekReport options r report
 sleek_report options r preds entailments report told each lines = record { preds = preds; shown = told; entailments = entailments; each = each; lines = lines }
+
+pub hip_report : (options : Options) (r : Resolved) (program : Program) (preds pairs report : List Line) → ArePredicateLines r options.atoms preds
+    → ArePairLines r.defs program (limits_of options) (first_unshown preds) r.methods pairs → report ≡ preds ++ pairs ++ hip.summary_of preds pairs ∷ []
+    → IsHipReport options r program report
+hip_report options r program preds pairs report told each lines = record { preds = preds; shown = told; pairs = pairs; each = each; lines = lines }

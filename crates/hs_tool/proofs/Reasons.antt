@@ -1,9 +1,10 @@
 -- Reports have the causes of their statuses.
-use Rattle.std.proofs.Common.{◌≡◌, inl, inr, ℕ, ◌<◌, List, [], ◌∷◌, ◌++◌, nat_eq, ◌&&◌, Some, None, Bool, true, false, refl, ap, sym, subst, arith}
+use Rattle.std.proofs.Common.{◌≡◌, inl, inr, ℕ, ◌<◌, List, [], ◌∷◌, ◌++◌, nat_eq, ◌&&◌, not, Some, None, Bool, true, false, refl, ap, sym, subst, arith}
 use Rattle.hs_io.specs.Faults.{Rose}
 use Rattle.hs_cli.specs.declared.jobs.Job.{Job}
 use Rattle.hs_cli.specs.declared.jobs.Options.{Options}
-use Rattle.hs_cli.specs.declared.jobs.Job.TheVariants.{Sleek, Core, Run}
+use Rattle.hs_cli.specs.declared.jobs.Job.TheVariants.{Sleek, Hip, Prove, Check, Core, Run}
+use Rattle.hs_core.specs.declared.program.Program.{Program}
 use Rattle.hs_norm.specs.declared.resolved.Resolved.{Resolved}
 use Rattle.hs_print.specs.declared.line.Line.{Line}
 use Rattle.hs_print.specs.declared.line.Line.TheVariants as line
@@ -16,7 +17,15 @@ use Rattle.hs_machine.specs.declared.runner.RunAnswer.TheVariants as answer
 use Rattle.hs_machine.specs.declared.runner.RunEnd.{RunEnd}
 use Rattle.hs_core_lines.specs.Core.{AreCoreLines}
 use Rattle.hs_core_lines.specs.Run.{AreRunLines, answer_line}
-use Rattle.hs_tool.specs.Sleek.{IsSleekReport}
+use Rattle.std.specs.Prelude.{count_by, length}
+use Rattle.std.specs.List.{list_any}
+use Rattle.hs_goal.specs.declared.rule.Limits.{Limits}
+use Rattle.hs_check.specs.declared.verdict.Verdict.{Verdict}
+use Rattle.hs_check.specs.declared.verdict.Verdict.TheVariants as verdict
+use Rattle.hs_proof_lines.specs.Proved.{IsProofReport, is_open}
+use Rattle.hs_proof_lines.specs.Checked.{IsCheckReport, verdict_line}
+use Rattle.hs_tool.specs.Hip.{IsHipReport, is_accepted, summary_of}
+use Rattle.hs_tool.specs.Sleek.{limits_of, is_shown, IsSleekReport}
 use Rattle.hs_tool.specs.Run.{IsReply, IsReport}
 use Rattle.hs_tool.specs.Laws.{HasStatusCause, StatusesHaveCauses}
 
@@ -36,15 +45,36 @@ status_below [] = omega arith
 status_below (l ∷ []) = alone_below l
 status_below (l ∷ (m ∷ report)) = let low = good_or_not (all_good (l ∷ (m ∷ report))) in omega arith
 
--- a report that ends with a summary is good or not
-summed_below : (report : List Line) (s p v e : ℕ) → status_of (report ++ line.SleekSummary s p v e ∷ []) < 2
-summed_below [] s p v e = omega arith
-summed_below (l ∷ []) s p v e = good_or_not (all_good (l ∷ (line.SleekSummary s p v e ∷ [])))
-summed_below (l ∷ (m ∷ report)) s p v e = good_or_not (all_good (l ∷ (m ∷ (report ++ line.SleekSummary s p v e ∷ []))))
+-- a report that ends with a line is good or not, where that line is alone
+ended_below : (report : List Line) (last : Line) → status_alone last < 2 → status_of (report ++ last ∷ []) < 2
+ended_below [] last low = low
+ended_below (l ∷ []) last low = good_or_not (all_good (l ∷ (last ∷ [])))
+ended_below (l ∷ (m ∷ report)) last low = good_or_not (all_good (l ∷ (m ∷ (report ++ last ∷ []))))
 
 sleek_below : (options : Options) (r : Resolved) (report : List Line) → IsSleekReport options r report → status_of report < 2
 sleek_below options r report right =
-    subst (λ (lines : List Line). status_of lines < 2) (sym right.lines) (summed_below (right.preds ++ right.entailments) _ _ _ _)
+    subst (λ (lines : List Line). status_of lines < 2) (sym right.lines) (ended_below (right.preds ++ right.entailments) (line.SleekSummary _ _ _ _) (omega arith))
+
+hip_below : (options : Options) (r : Resolved) (program : Program) (report : List Line) → IsHipReport options r program report → status_of report < 2
+hip_below options r program report right =
+    subst (λ (lines : List Line). status_of lines < 2) (sym right.lines)
+    (ended_below (right.preds ++ right.pairs) (summary_of right.preds right.pairs)
+    (good_or_not (nat_eq (count_by is_shown right.preds) (length right.preds) && nat_eq (count_by is_accepted right.pairs) (length right.pairs))))
+
+-- the text of a derivation is good or not
+prove_below : (r : Resolved) (program : Program) (limits : Limits) (report : List Line) → IsProofReport r program limits report → status_of report < 2
+prove_below r program limits report right =
+    subst (λ (lines : List Line). status_of lines < 2) (sym right.is) (good_or_not (not (list_any is_open right.claims)))
+
+verdict_below : (nodes claims : ℕ) (v : Verdict) → status_of (verdict_line nodes claims v ∷ []) < 2
+verdict_below nodes claims verdict.Accepted = omega arith
+verdict_below nodes claims (verdict.Refused k reason) = omega arith
+verdict_below nodes claims (verdict.MissingClaim k) = omega arith
+verdict_below nodes claims (verdict.Stopped k spent) = omega arith
+
+check_below : (r : Resolved) (program : Program) (atoms : ℕ) (text : List ℕ) (report : List Line) → IsCheckReport r program atoms text report → status_of report < 2
+check_below r program atoms text report right =
+    subst (λ (lines : List Line). status_of lines < 2) (sym right.is) (verdict_below _ _ right.verdict)
 
 core_below : (r : Resolved) (report : List Line) → AreCoreLines r report → status_of report < 2
 core_below r report (program, has, is) = subst (λ (lines : List Line). status_of lines < 2) (sym is) (omega arith)
@@ -52,18 +82,22 @@ core_below r report (program, has, is) = subst (λ (lines : List Line). status_o
 -- the line of a run is good or not
 run_below : (r : Resolved) (method text : List ℕ) (steps : ℕ) (report : List Line) → AreRunLines r method text steps report → status_of report < 2
 run_below r method text steps report right =
-    subst (λ (lines : List Line). status_of lines < 2) (sym right.is) (ended_below right.end right.end.answer)
+    subst (λ (lines : List Line). status_of lines < 2) (sym right.is) (run_ended right.end right.end.answer)
   where
-    ended_below : (end : RunEnd) (a : RunAnswer) → status_of (answer_line r.defs right.program end a ∷ []) < 2
-    ended_below end (answer.Returned result) = omega arith
-    ended_below end answer.Running = omega arith
-    ended_below end (answer.Fault number point place) = omega arith
-    ended_below end (answer.Wide number point) = omega arith
+    run_ended : (end : RunEnd) (a : RunAnswer) → status_of (answer_line r.defs right.program end a ∷ []) < 2
+    run_ended end (answer.Returned result) = omega arith
+    run_ended end answer.Running = omega arith
+    run_ended end (answer.Fault number point place) = omega arith
+    run_ended end (answer.Wide number point) = omega arith
 
 module _ (known : Known) (before now : ℕ) where
   -- what answers a job is no refusal
   answer_below : (job : Job) (report : List Line) → IsReply known before now job (Answered report) → status_of report < 2
   answer_below (Sleek name options) report right = sleek_below options right.are.resolved report right.are.is.2
+  answer_below (Hip name options) report right = hip_below options right.are.resolved right.are.is.0 report right.are.is.2
+  answer_below (Prove name options) report right = prove_below right.are.resolved right.are.is.0 (limits_of options) report right.are.is.2
+  answer_below (Check file proof options) report right =
+      check_below right.are.are.resolved right.are.are.is.0 options.atoms right.are.bytes report right.are.are.is.2
   answer_below (Core name) report right = core_below right.are.resolved report right.are.is.1
   answer_below (Run file method heap options) report right =
       run_below right.are.are.resolved method right.are.bytes options.steps report right.are.are.is.1
@@ -71,6 +105,15 @@ module _ (known : Known) (before now : ℕ) where
   fault_rose : (job : Job) (name : List ℕ) → IsReply known before now job (FileFault name) → Rose before now
   fault_rose (Sleek own options) name (inl fault) = fault.1
   fault_rose (Sleek own options) name (inr on) = absurd on.are.is
+  fault_rose (Hip own options) name (inl fault) = fault.1
+  fault_rose (Hip own options) name (inr on) = absurd on.are.is
+  fault_rose (Prove own options) name (inl fault) = fault.1
+  fault_rose (Prove own options) name (inr on) = absurd on.are.is
+  fault_rose (Check file proof options) name (inl fault) = fault.1
+  fault_rose (Check file proof options) name (inr on) = elim on.are [
+    | inl fault ↦ fault.1
+    | inr text ↦ absurd text.are.is
+  ]
   fault_rose (Core own) name (inl fault) = fault.1
   fault_rose (Core own) name (inr on) = absurd on.are.is
   fault_rose (Run file method heap options) name (inl fault) = fault.1

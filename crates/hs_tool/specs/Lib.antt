@@ -4,6 +4,8 @@ pub mod Reply
 pub mod Served
 pub mod Sleek
 pub mod Sources
+pub mod Hip
+pub mod Proofs
 pub mod Programs
 pub mod Run
 pub mod Laws

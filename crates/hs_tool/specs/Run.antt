@@ -6,7 +6,7 @@ use Rattle.hs_io.specs.Faults.{Rose}
 use Rattle.hs_cli.specs.Command.{hipsleek_app}
 use Rattle.hs_cli.specs.Job.{job_of}
 use Rattle.hs_cli.specs.declared.jobs.Job.{Job}
-use Rattle.hs_cli.specs.declared.jobs.Job.TheVariants.{Sleek, Core, Run}
+use Rattle.hs_cli.specs.declared.jobs.Job.TheVariants.{Sleek, Hip, Prove, Check, Core, Run}
 use Rattle.hs_print.specs.Line.{text_of}
 use Rattle.hs_print.specs.declared.line.Line.{Line}
 use Rattle.hs_print.specs.declared.line.Line.TheVariants.{RefusedWords}
@@ -16,11 +16,17 @@ use Rattle.hs_tool.specs.declared.reply.Reply.{Reply}
 use Rattle.hs_tool.specs.declared.reply.Reply.TheVariants.{Refused}
 use Rattle.hs_tool.specs.Reply.{Known, IsFileReply, IsSourceReply, Says}
 use Rattle.hs_tool.specs.Sleek.{IsSleekReply}
+use Rattle.hs_tool.specs.Hip.{IsHipReply}
+use Rattle.hs_tool.specs.Proofs.{IsProveReply, IsCheckReply}
 use Rattle.hs_tool.specs.Programs.{IsCoreReply, IsRunReply}
 
 -- the most bytes that a source or a heap text may have
 abbrev pub source_limit : ℕ
 source_limit = 2 ^ 20
+
+-- the most bytes that the text of a derivation may have
+abbrev pub proof_limit : ℕ
+proof_limit = 2 ^ 26
 
 -- the job that the words name, if the command takes them
 abbrev pub job_named : List (List ℕ) → Option Job
@@ -29,6 +35,11 @@ job_named words = if takes hipsleek_app words then job_of (subcommand_of hipslee
 -- the reply to a job, where the count of files' faults goes from before to now: a case for each command
 abbrev pub IsReply : Known → (before now : ℕ) → Job → Reply → Type 0
 IsReply known before now (Sleek name options) = IsFileReply known (Rose before now) source_limit name (IsSourceReply (IsSleekReply options))
+IsReply known before now (Hip name options) = IsFileReply known (Rose before now) source_limit name (IsSourceReply (IsHipReply options))
+IsReply known before now (Prove name options) = IsFileReply known (Rose before now) source_limit name (IsSourceReply (IsProveReply options))
+IsReply known before now (Check file proof options) =
+    IsFileReply known (Rose before now) source_limit file (λ source. IsFileReply known (Rose before now) proof_limit proof
+    (λ text. IsSourceReply (IsCheckReply text options) source))
 IsReply known before now (Core name) = IsFileReply known (Rose before now) source_limit name (IsSourceReply IsCoreReply)
 IsReply known before now (Run file method heap options) =
     IsFileReply known (Rose before now) source_limit file (λ source. IsFileReply known (Rose before now) source_limit heap

@@ -10,9 +10,11 @@
 #![tactic(auto)]
 
 mod fetching;
+mod hip;
 mod laws;
 mod output;
 mod programs;
+mod proofs;
 mod reply;
 mod served;
 mod sleek;
@@ -22,6 +24,9 @@ mod tool;
 
 /// The most bytes that a source or a heap text may have.
 pub const SOURCE_LIMIT: u64 = 1 << 20;
+
+/// The most bytes that the text of a derivation may have.
+pub const PROOF_LIMIT: u64 = 1 << 26;
 
 pub use hs_cli::{Job, Options, WordsError};
 pub use hs_print::{Line, Refusal, Tried, Why, Word};

@@ -6,17 +6,21 @@ ghost use Rattle.hs_io.specs.Faults.{Rose};
 ghost use Rattle.hs_cli.specs.Job.{AreInRange, IsInRange};
 ghost use Rattle.hs_tool.specs.Reply.{IsFileReply, IsSourceReply};
 ghost use Rattle.hs_tool.specs.Sleek.{IsSleekReply};
+ghost use Rattle.hs_tool.specs.Hip.{IsHipReply};
+ghost use Rattle.hs_tool.specs.Proofs.{IsProveReply, IsCheckReply};
 ghost use Rattle.hs_tool.specs.Programs.{IsCoreReply, IsRunReply};
-ghost use Rattle.hs_tool.specs.Run.{source_limit, job_named, IsReply, IsReport, Ends};
+ghost use Rattle.hs_tool.specs.Run.{source_limit, proof_limit, job_named, IsReply, IsReport, Ends};
 
 use crate::fetching::{Fetched, fetch};
+use crate::hip::hip_reply;
 use crate::laws::statuses_have_causes;
 use crate::output::write_all;
 use crate::programs::{core_reply, run_reply};
+use crate::proofs::{check_reply, prove_reply};
 use crate::reply::{Reply, alone, lines};
 use crate::sleek::sleek_reply;
 use crate::statuses::status;
-use crate::{Line, SOURCE_LIMIT};
+use crate::{Line, PROOF_LIMIT, SOURCE_LIMIT};
 use hs_cli::{Job, Options, WordsError, job};
 use hs_io::{Files, PutError, Sink};
 use hs_print::text;
@@ -48,9 +52,8 @@ where
         (K.faults sink.old) (K.faults sink.new) (K.written sink.old) (K.written sink.new) result }
 {
     let _ = rt;
-    let _ = watch;
     statuses_have_causes();
-    let Ok(report) = report_for(alloc, words, files) else {
+    let Ok(report) = report_for(alloc, words, files, watch) else {
         return 6;
     };
     let Ok(text) = text(alloc, report.as_slice()) else {
@@ -64,27 +67,40 @@ where
 }
 
 // The report for the words.
-fn report_for<F: Files>(
+fn report_for<F: Files, W: Fn(u32) + Sync>(
     alloc: Global,
     words: &[String],
     files: &mut F,
+    watch: &W,
 ) -> Result<Items<Line>, NoMemory>
+    requires watch { W.IsAlwaysCallable watch.now }
     ensures { IfOk result (IsReport (F.texts files.old) (F.faults files.old) (F.faults files.new) (job_named (map string_bytes words.now))) }
 {
     match job(alloc, words) {
-        Ok(job) => Ok(lines(alloc, job_reply(alloc, job, files)?)?),
+        Ok(job) => Ok(lines(alloc, job_reply(alloc, job, files, watch)?)?),
         Err(WordsError::Words) => Ok(alone(alloc, Line::RefusedWords)?),
         Err(WordsError::Memory) => Err(NoMemory),
     }
 }
 
 // The reply to a job.
-fn job_reply<F: Files>(alloc: Global, job: Job, files: &mut F) -> Result<Reply, NoMemory>
-    requires { IsInRange job }
+fn job_reply<F: Files, W: Fn(u32) + Sync>(
+    alloc: Global,
+    job: Job,
+    files: &mut F,
+    watch: &W,
+) -> Result<Reply, NoMemory>
+    requires range { IsInRange job }
+    requires watch { W.IsAlwaysCallable watch.now }
     ensures { IfOk result (IsReply (F.texts files.old) (F.faults files.old) (F.faults files.new) job) }
 {
     match job {
         Job::Sleek(name, options) => sleek_file(alloc, name, options, files),
+        Job::Hip(name, options) => hip_file(alloc, name, options, files),
+        Job::Prove(name, options) => prove_file(alloc, name, options, files),
+        Job::Check(file, proof, options) => {
+            check_files(alloc, file, proof, options, files, watch)
+        }
         Job::Core(name) => core_file(alloc, name, files),
         Job::Run(file, method, heap, options) => {
             run_files(alloc, file, &method, heap, options.steps, files)
@@ -104,6 +120,79 @@ fn sleek_file<F: Files>(
 {
     match fetch(alloc, name, SOURCE_LIMIT, files)? {
         Fetched::Bytes(source) => sleek_reply(alloc, &source, options),
+        Fetched::Missing(reply) => Ok(reply),
+    }
+}
+
+// The reply to a file whose methods are verified.
+fn hip_file<F: Files>(
+    alloc: Global,
+    name: Text,
+    options: Options,
+    files: &mut F,
+) -> Result<Reply, NoMemory>
+    requires { AreInRange options }
+    ensures { IfOk result (IsFileReply (F.texts files.old) (Rose (F.faults files.old) (F.faults files.new)) source_limit name (IsSourceReply (IsHipReply options))) }
+{
+    match fetch(alloc, name, SOURCE_LIMIT, files)? {
+        Fetched::Bytes(source) => hip_reply(alloc, &source, options),
+        Fetched::Missing(reply) => Ok(reply),
+    }
+}
+
+// The reply to a file whose claims are proved.
+fn prove_file<F: Files>(
+    alloc: Global,
+    name: Text,
+    options: Options,
+    files: &mut F,
+) -> Result<Reply, NoMemory>
+    requires { AreInRange options }
+    ensures { IfOk result (IsFileReply (F.texts files.old) (Rose (F.faults files.old) (F.faults files.new)) source_limit name (IsSourceReply (IsProveReply options))) }
+{
+    match fetch(alloc, name, SOURCE_LIMIT, files)? {
+        Fetched::Bytes(source) => prove_reply(alloc, &source, options),
+        Fetched::Missing(reply) => Ok(reply),
+    }
+}
+
+// The reply to a file against whose claims the derivation in another is checked.
+fn check_files<F: Files, W: Fn(u32) + Sync>(
+    alloc: Global,
+    file: Text,
+    proof: Text,
+    options: Options,
+    files: &mut F,
+    watch: &W,
+) -> Result<Reply, NoMemory>
+    requires range { AreInRange options }
+    requires watch { W.IsAlwaysCallable watch.now }
+    ensures { IfOk result (IsFileReply (F.texts files.old) (Rose (F.faults files.old) (F.faults files.new)) source_limit file (λ source.
+        IsFileReply (F.texts files.old) (Rose (F.faults files.old) (F.faults files.new)) proof_limit proof (λ text. IsSourceReply (IsCheckReply text options) source))) }
+{
+    match fetch(alloc, file, SOURCE_LIMIT, files)? {
+        Fetched::Bytes(source) => check_source(alloc, &source, proof, options, files, watch),
+        Fetched::Missing(reply) => Ok(reply),
+    }
+}
+
+// The reply to a source against whose claims the derivation in a file is checked.
+fn check_source<F: Files, W: Fn(u32) + Sync>(
+    alloc: Global,
+    source: &[u8],
+    proof: Text,
+    options: Options,
+    files: &mut F,
+    watch: &W,
+) -> Result<Reply, NoMemory>
+    requires few { length source.now ≤ source_limit }
+    requires range { AreInRange options }
+    requires watch { W.IsAlwaysCallable watch.now }
+    ensures reply { IfOk result (IsFileReply (F.texts files.old) (Rose (F.faults files.old) (F.faults files.new)) proof_limit proof (λ text. IsSourceReply (IsCheckReply text options) source.now)) }
+    ensures later { F.faults files.old ≤ F.faults files.new }
+{
+    match fetch(alloc, proof, PROOF_LIMIT, files)? {
+        Fetched::Bytes(text) => check_reply(alloc, source, &text, options, watch),
         Fetched::Missing(reply) => Ok(reply),
     }
 }

@@ -1,0 +1,4 @@
+mod Sources
+mod Statuses
+mod Hips
+mod Derivations
