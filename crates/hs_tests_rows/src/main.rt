@@ -1,9 +1,10 @@
 //! A table of the tool: each line of the file `rows`, with the status and the report that it gives.
 //!
 //! A line is a source, which `sleek a` reads as the file `a`. A line that begins with `%` has the heap text of the file
-//! `h`, where each `|` ends a line; there are no other files. A line that begins with `$` has words, which stand in quotes
-//! where they are empty or have blanks; the job that they name is told too, and the files are the last ones above. A line
-//! that begins with `//` is a heading.
+//! `h`, where each `|` ends a line, and one that begins with `>` the derivation of the file `d`, where each `~` ends a
+//! line; there are no other files. A line that begins with `$` has words, which stand in quotes where they are empty or
+//! have blanks; the job that they name is told too, and the files are the last ones above. Of words behind `=` the status
+//! alone is told, and their report becomes the file `d`. A line that begins with `//` is a heading.
 #![tactic(auto)]
 
 mod rows;
