@@ -71,7 +71,7 @@ blanks() { # blanks BYTES: blanks and comments alone
   head -c "$1" < <(yes '  // nothing but a comment')
 }
 
-resolved() { # resolved COUNT: so many entailments of predicates, a quarter as many predicates, and a method: not served yet
+resolved() { # resolved COUNT: so many entailments of predicates, a quarter as many predicates, and a method
   echo "$node"
   echo 'method f() requires emp ensures emp; { }'
   for k in $(seq $(($1 / 4))); do
