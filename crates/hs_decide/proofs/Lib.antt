@@ -1,3 +1,5 @@
+pub mod Asking
 pub mod Comparisons
 pub mod Reducing
 pub mod Questions
+pub mod Sides

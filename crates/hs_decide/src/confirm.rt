@@ -9,7 +9,7 @@ use hs_pure::{Pure, Valuation};
 
 // Whether `Exists` or `Forall` occurs.
 #[cycle(has_quantifiers)]
-fn has_quantifiers(p: &Pure) -> bool
+pub(crate) fn has_quantifiers(p: &Pure) -> bool
     ensures { result ≡ has_quantifiers p.now }
 {
     match p {

@@ -16,9 +16,10 @@ ghost use Rattle.hs_decide.specs.Answering.{IfNo, IsDecided, answer_of, IsVerdic
 ghost use Rattle.hs_decide.specs.declared.answer.Answer.TheVariants.{Yes, Atoms, Wide};
 
 use crate::Answer;
+use crate::conjuncts::seen;
+use crate::counting::by_reduction;
 use crate::formula::{counterexample, falsehood};
-use crate::placing::answer;
-use hs_equations::{Finding, examine};
+use hs_equations::Finding;
 use hs_pure::{NoMemory, Pure};
 use hs_reduction::bags_plain_is_of_assertion;
 use hs_truth::plain_truth_is_decided;
@@ -73,10 +74,7 @@ fn examined(alloc: Global, a: &Pure, b: &Pure, atoms: u64) -> Result<Answer, NoM
     requires small { atoms ≤ 2 ^ 30 }
     ensures { IfOk result (IsVerdict atoms a.now b.now) }
 {
-    if a.has_bags() || b.has_bags() {
-        return counted(alloc, a, b, atoms);
-    }
-    match examine(alloc, a, b, atoms)? {
+    match seen(alloc, a, b, atoms)? {
         Finding::Implied => Ok(Answer::Yes),
         Finding::Refuted(values) => Ok(Answer::No(values)),
         Finding::Open => counted(alloc, a, b, atoms),
@@ -97,7 +95,7 @@ fn counted(alloc: Global, a: &Pure, b: &Pure, atoms: u64) -> Result<Answer, NoMe
     bags_plain_is_of_assertion();
     plain_truth_is_decided();
     let question = counterexample(alloc, a, b)?;
-    answer(alloc, question.get(), atoms)
+    by_reduction(alloc, question.get(), atoms)
 }
 
 /// Whether `a` is false at all stacks: whether it implies what is false. Conditions and stops are those of

@@ -9,11 +9,14 @@
 
 mod answer;
 mod confirm;
+mod conjuncts;
 mod counting;
 mod decide;
+mod facts;
 mod formula;
 mod placing;
 mod plainly;
+mod rows;
 mod shared;
 
 pub use answer::Answer;

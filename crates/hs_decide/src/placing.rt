@@ -11,41 +11,23 @@ ghost use Rattle.hs_equations.specs.declared.finding.Finding.TheVariants.{Implie
 ghost use Rattle.hs_decide.specs.Answering.{IsAnswer};
 ghost use Rattle.hs_decide.specs.Reduced.{IsReducedQuestion};
 
-use crate::Answer;
 use crate::confirm::is_true;
-use crate::counting::{by_reduction, reduction};
+use crate::counting::reduction;
 use crate::formula::falsehood;
+use crate::rows::by_equations;
 use hs_bag::Stop;
 use hs_bag_equations::{InPlace, completed, placed};
 use hs_counts::{RebuildError, Reduced, rebuild_bags};
-use hs_equations::{Finding, examine};
+use hs_equations::Finding;
 use hs_pure::{NoMemory, Pure, Valuation};
 use hs_reduction::{
     bagless_has_no_bags, bagless_is_exact, bagless_is_ordered, bags_plain_is_of_assertion,
 };
 use std::alloc::Global;
 
-/// The answer to the question whether a formula has no solution: `Yes` where it has none, `No` with one.
-pub(crate) fn answer(alloc: Global, question: &Pure, atoms: u64) -> Result<Answer, NoMemory>
-    requires plain { IsTrue (is_bags_plain question.now) }
-    requires ordered { IsOrdered question.now }
-    requires low { top_of question.now < 2 ^ 31 }
-    requires small { atoms ≤ 2 ^ 30 }
-    ensures { IfOk result (IsAnswer atoms question.now) }
-{
-    if !question.has_bags() {
-        return by_reduction(alloc, question, atoms);
-    }
-    match found(alloc, question, atoms)? {
-        Finding::Implied => Ok(Answer::Yes),
-        Finding::Refuted(values) => Ok(Answer::No(values)),
-        Finding::Open => by_reduction(alloc, question, atoms),
-    }
-}
-
 // What is found of the question whether a formula has no solution: `Implied` where it has none, `Refuted` with one that
 // was tried. Nothing is said of `Open`.
-fn found(alloc: Global, question: &Pure, atoms: u64) -> Result<Finding, NoMemory>
+pub(crate) fn found(alloc: Global, question: &Pure, atoms: u64) -> Result<Finding, NoMemory>
     requires plain { IsTrue (is_bags_plain question.now) }
     requires ordered { IsOrdered question.now }
     requires low { top_of question.now < 2 ^ 31 }
@@ -71,6 +53,7 @@ fn reduced_found(
 ) -> Result<Finding, NoMemory>
     requires follows { (s : Stack) → TrueAt s question.now → TrueAt s in_place.now.pure }
     requires reduced { IsReducedQuestion in_place.now.pure reduced.now }
+    requires small { atoms ≤ 2 ^ 30 }
     ensures implied { IfOk result (λ r. r ≡ Implied → (s : Stack) → ¬ (TrueAt s question.now)) }
     ensures refuted { IfOk result (λ r. IfRefuted r (λ v. TrueAt (stack_of v) question.now)) }
 {
@@ -79,7 +62,7 @@ fn reduced_found(
     bagless_is_ordered();
     bags_plain_is_of_assertion();
     let never = falsehood(alloc)?;
-    match examine(alloc, &reduced.pure, never.get(), atoms)? {
+    match by_equations(alloc, &reduced.pure, never.get(), atoms)? {
         Finding::Implied => Ok(Finding::Implied),
         Finding::Refuted(values) => tried(alloc, question, in_place, reduced, &values),
         Finding::Open => Ok(Finding::Open),

@@ -11,9 +11,10 @@ ghost use Rattle.hs_decide.specs.Reduced.{IsReducedQuestion};
 
 use crate::Answer;
 use crate::formula::falsehood;
+use crate::rows::by_equations;
 use hs_cooper::Stop;
 use hs_counts::{RebuildError, Reduced, rebuild_bags, rebuilt_by_counts};
-use hs_equations::{Finding, examine};
+use hs_equations::Finding;
 use hs_plain::solution;
 use hs_pure::{NoMemory, Pure, Valuation};
 use hs_reduction::{
@@ -57,7 +58,7 @@ fn by_rows(
     bagless_is_ordered();
     bags_plain_is_of_assertion();
     let never = falsehood(alloc)?;
-    match examine(alloc, &reduced.pure, never.get(), atoms)? {
+    match by_equations(alloc, &reduced.pure, never.get(), atoms)? {
         Finding::Implied => Ok(Answer::Yes),
         Finding::Refuted(values) => with_values(alloc, question, reduced, &values, atoms),
         Finding::Open => by_elimination(alloc, question, reduced, atoms),

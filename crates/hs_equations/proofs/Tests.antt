@@ -1,5 +1,5 @@
 -- The test of truth of a formula, by its parts.
-use Rattle.std.proofs.Common.{◌≡◌, Bool, true, false, not, ◌&&◌, ◌||◌, List, [], ◌∷◌, map, int_lt, ◌⊎◌, inl, inr, ⊎_elim, ◌↔◌, refl, sym, ap, ◌∙◌, subst}
+use Rattle.std.proofs.Common.{◌≡◌, Bool, true, false, not, ◌&&◌, ◌||◌, List, [], ◌∷◌, map, ℤ, int_lt, ◌⊎◌, inl, inr, ⊎_elim, ◌↔◌, refl, sym, ap, ◌∙◌, subst}
 use Rattle.std.specs.Ordering.{int_eq}
 use Rattle.std.specs.List.{All, Any, fold}
 use Rattle.std.proofs.lemmas.Bool.{false≢true}
@@ -9,9 +9,9 @@ use Rattle.hs_pure.specs.declared.pure.Pure.TheVariants as pure_of
 use Rattle.hs_pure.specs.Stack.{Stack}
 use Rattle.hs_pure.specs.Assertion.{Assertion, truth, negation, both, either, every, some, pure_level, assertion_of}
 use Rattle.hs_pure.specs.Truth.{value}
-use Rattle.hs_pure.proofs.Views.{fold-Eq, fold-Lt, fold-Le, fold-Not, fold-And, fold-Or}
+use Rattle.hs_pure.proofs.Views.{fold-Eq, fold-Lt, fold-Le, fold-Divides, fold-Not, fold-And, fold-Or}
 use Rattle.hs_pure.proofs.Truths.{All-map_back, Any-map, Any-first, Any-later, every-all, some-all}
-use Rattle.hs_elimination.specs.Decided.{is_true_at}
+use Rattle.hs_elimination.specs.Decided.{is_divisor, is_true_at}
 use Rattle.hs_equations.specs.Claims.{truth_at, IsAnd, IsOr}
 
 module _ (P : Assertion → Type 0) where
@@ -63,6 +63,9 @@ module _ (s : Stack) (p : Pure) where
 
   pub test-Le : (a c : Lin) (b : Bool) → p ≡ pure_of.Le a c → truth_at s p ≡ b → int_lt (value s c) (value s a) ≡ not b
   test-Le a c b is h = not-move (int_lt (value s c) (value s a)) b (read _ b (ap assertion_of is ∙ fold-Le pure_level a c) h)
+
+  pub test-Divides : (d : ℤ) (a : Lin) (b : Bool) → p ≡ pure_of.Divides d a → truth_at s p ≡ b → is_divisor d (value s a) ≡ b
+  test-Divides d a b is h = read _ b (ap assertion_of is ∙ fold-Divides pure_level d a) h
 
   module _ (ps : List Pure) where
     and-read : (b : Bool) → p ≡ pure_of.And ps → truth_at s p ≡ b → is_true_at s (every (map assertion_of ps)) ≡ b

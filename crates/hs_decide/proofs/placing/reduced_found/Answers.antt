@@ -4,13 +4,13 @@ use Rattle.hs_decide.proofs.Reducing.{bags-reduced, ordered-reduced, unsolved}
 use Rattle.hs_decide.proofs.Questions.{never}
 use Rattle.hs_decide.proofs.placing.reduced_found.Goals as goal
 
-pub examine-requires-clause-left_bags : goal.examine-requires-clause-left_bags
-examine-requires-clause-left_bags c = bags-reduced c.args.in_place.now.pure c.args.reduced.now c.requires.reduced c.bags_plain_is_of_assertion.ensures c.bagless_has_no_bags.ensures
+pub by_equations-requires-clause-left_bags : goal.by_equations-requires-clause-left_bags
+by_equations-requires-clause-left_bags c = bags-reduced c.args.in_place.now.pure c.args.reduced.now c.requires.reduced c.bags_plain_is_of_assertion.ensures c.bagless_has_no_bags.ensures
 
-pub examine-requires-clause-left_ordered : goal.examine-requires-clause-left_ordered
-examine-requires-clause-left_ordered c = ordered-reduced c.args.in_place.now.pure c.args.reduced.now c.requires.reduced c.bagless_is_ordered.ensures
+pub by_equations-requires-clause-left_ordered : goal.by_equations-requires-clause-left_ordered
+by_equations-requires-clause-left_ordered c = ordered-reduced c.args.in_place.now.pure c.args.reduced.now c.requires.reduced c.bagless_is_ordered.ensures
 
 pub returns-in-Implied-clause-implied : goal.returns-in-Implied-clause-implied
 returns-in-Implied-clause-implied c = λ _ s h.
     unsolved c.args.in_place.now.pure c.args.reduced.now c.requires.reduced c.bags_plain_is_of_assertion.ensures c.bagless_is_exact.ensures
-    (λ t k. never t (subst (TrueAt t) (c.get.ensures ∙ c.in_ok-never.ensures) (c.in_ok-examine.ensures.implied c.in-Implied.is t k))) s (c.requires.follows s h)
+    (λ t k. never t (subst (TrueAt t) (c.get.ensures ∙ c.in_ok-never.ensures) (c.in_ok-by_equations.ensures.implied c.in-Implied.is t k))) s (c.requires.follows s h)
