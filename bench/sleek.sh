@@ -71,13 +71,13 @@ blanks() { # blanks BYTES: blanks and comments alone
   head -c "$1" < <(yes '  // nothing but a comment')
 }
 
-resolved() { # resolved COUNT: so many entailments of predicates, a quarter as many predicates, and a method
+resolved() { # resolved COUNT: so many entailments of predicates, a quarter as many predicates, and a lemma
   echo "$node"
-  echo 'method f() requires emp ensures emp; { }'
   for k in $(seq $(($1 / 4))); do
     echo "pred p$k<n, S> == self = null & n = 0 & S = {} or exists v, q, m, T." \
       "self::node<v, q> * q::p$k<m, T> & n = m + 1 & S = union(T, {v}) inv n >= 0;"
   done
+  echo 'lemma l: self::p1<n, S> -> self::p1<n, S>;'
   side='emp'
   for i in $(seq 12); do side="x$i::PRED<n$i + 1, union(S$i, {a$i})> * $side"; done
   side=${side% * emp}
